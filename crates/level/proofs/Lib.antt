@@ -1,0 +1,9 @@
+mod Listing
+mod Fronts
+mod Steps
+mod Expressions
+mod Effects
+mod Sections
+mod Whole
+mod Standing
+mod Settled

@@ -1,0 +1,11 @@
+pub mod Syntax
+pub mod Spelling
+pub mod Sound
+pub mod Faults
+pub mod Reading
+pub mod Places
+pub mod Tables
+pub mod Entries
+pub mod Contents
+pub mod Levels
+pub mod Law

@@ -1,0 +1,42 @@
+// The steps that all readers are made of.
+use crate::cursor::Cursor;
+use crate::fault::OperandFault;
+use crate::fault::Reason;
+ghost use mathlib.Core.Bool.{cond, _&&_};
+ghost use mathlib.Core.List.{[]};
+ghost use mathlib.Core.Path.{_≡_};
+ghost use Prim.Native.Nat.{_<_, _≤_, _-_};
+ghost use lib.Dec.{leb, ltb};
+ghost use lib.ListN.{length, getD, drop};
+ghost use Rattle.std.specs.declared.result.Result.the-variants.{Ok, Err};
+ghost use Rattle.level.specs.declared.fault.OperandFault.the-variants.{OutOfRange};
+ghost use Rattle.level.specs.declared.fault.Reason.the-variants.{Truncated};
+ghost use Rattle.level.specs.Reading.{at};
+
+impl<'a> Cursor<'a> {
+    // Past so many bytes.
+    pub fn advance(&mut self, count: usize)
+        requires { ⌜ count ≤ length (now (now self .rest)) ⌝ }
+        ensures { λ _. ⌜ now (now (self .exit) .rest) ≡ drop count (now (now (self .entry) .rest)) ⌝ }
+    {
+        let rest = self.rest;
+        self.rest = &rest[count..];
+    }
+
+    // The bytes end too soon: what is named is their end.
+    pub fn truncated(&mut self) -> Reason
+        ensures answer { λ r. ⌜ r ≡ Truncated ⌝ }
+        ensures rest { λ _. ⌜ now (now (self .exit) .rest) ≡ [] ⌝ }
+    {
+        self.rest = &[];
+        Reason::Truncated
+    }
+
+    // Whether the next byte is this one.
+    pub fn sees(&self, command: u8) -> bool
+        requires { ⌜ 0 < command ⌝ }
+        ensures { λ r. ⌜ r ≡ lib.Dec.eqb (at (now (now (self .entry) .rest)) 0) command ⌝ }
+    {
+        self.rest.len() > 0 && self.rest[0] == command
+    }
+}
