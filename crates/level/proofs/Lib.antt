@@ -7,3 +7,5 @@ mod Sections
 mod Whole
 mod Standing
 mod Settled
+mod Turns
+mod Arms

@@ -1,10 +1,11 @@
 -- The front of a list, as a table holds it.
 use mathlib.Core.List.{List, [], _∷_}
 use mathlib.Core.Path.{_≡_, refl, ap}
-use Prim.Native.Nat.{ℕ, zero, suc, _<_, _≤_}
+use Prim.Native.Nat.{ℕ, zero, suc, _-_, _<_, _≤_}
 use native.Mathlib.Omega.{arith}
 use lib.ListN.{length, getD, take}
 use Rattle.std.specs.declared.option.Option.the-variants.{Some, None}
+use Rattle.level.specs.Sound.{parameters}
 use Rattle.level.specs.Tables.{nth}
 
 pub nth-front : {T : Type 0} (n : ℕ) (xs : List T) (i : ℕ) (d : T) → n ≤ length xs → i < n → nth (take n xs) i ≡ Some (getD xs i d)
@@ -17,3 +18,21 @@ pub nth-past : {T : Type 0} (xs : List T) (i : ℕ) → length xs ≤ i → nth 
 nth-past [] i h = refl
 nth-past (x ∷ xs) zero h = absurd (omega arith)
 nth-past (x ∷ xs) (suc i) h = nth-past xs i (omega arith)
+
+pub nth-none : {T : Type 0} (xs : List T) (i : ℕ) → None ≡ nth xs i → length xs ≤ i
+nth-none [] i h = omega arith
+nth-none (x ∷ xs) zero h = absurd (let z : _≡_ {A = ℕ} 0 1 = cc in omega arith)
+nth-none (x ∷ xs) (suc i) h = let k = nth-none xs i h in omega arith
+
+pub nth-some : {T : Type 0} (xs : List T) (i : ℕ) (x d : T) → Some x ≡ nth xs i → (i < length xs) × (getD xs i d ≡ x)
+nth-some [] i x d h = absurd (let z : _≡_ {A = ℕ} 0 1 = cc in omega arith)
+nth-some (y ∷ xs) zero x d h = (omega arith, cc)
+nth-some (y ∷ xs) (suc i) x d h = let k = nth-some xs i x d h in (let j = k .0 in omega arith, k .1)
+
+-- the parameters of a signal, where it is declared
+pub parameters-some : (ss : List ℕ) (s p : ℕ) → 1 ≤ s → Some p ≡ nth ss (s - 1) → (s ≤ length ss) × (parameters ss s ≡ p)
+parameters-some ss zero p h e = absurd (omega arith)
+parameters-some ss (suc s) p h e =
+  let z : suc s - 1 ≡ s = omega arith in
+  let k = nth-some ss s p 0 (rw z at e) in
+  (let j = k .0 in omega arith, k .1)

@@ -1,6 +1,7 @@
 -- How bytes are read as a level, from the left, up to its end or the first fault met.
 use mathlib.Core.Bool.{Bool, true, false, cond, _&&_}
 use mathlib.Core.List.{List, [], _∷_, _++_}
+use mathlib.Core.Path.{_≡_}
 use Prim.Native.Nat.{ℕ, zero, suc, _+_, _-_, _*_}
 use lib.Dec.{leb, ltb, eqb}
 use lib.IntN.{ℤ}
@@ -256,6 +257,11 @@ remains (bad x) = x .from
 
 abbrev pub nothing : {A : Type 0} → A → Unit {0}
 nothing a = tt
+
+-- both at once: the promise of the code's readers, where `f` is what is made of what was read
+pub record Gives {A B : Type 0} (f : A → B) (R : Read A) (r : Result B Reason) (l : List ℕ) : Type 0 where
+  pub answer : r ≡ answered f R
+  pub rest : l ≡ remains R
 
 -- what holds of what was read
 abbrev pub Holds : {A : Type 0} → Read A → (A → Type 0) → Type 0
