@@ -9,3 +9,8 @@ mod Standing
 mod Settled
 mod Turns
 mod Arms
+mod Fills
+mod Limits
+mod Heads
+mod Transitions
+mod Growing

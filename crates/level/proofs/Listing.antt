@@ -4,6 +4,7 @@ use mathlib.Core.Path.{_≡_, refl, ap}
 use Prim.Native.Nat.{ℕ, zero, suc, _-_, _<_, _≤_}
 use native.Mathlib.Omega.{arith}
 use lib.ListN.{length, getD, take}
+use Rattle.std.proofs.shelf.Lists.{getD-past}
 use Rattle.std.specs.declared.option.Option.the-variants.{Some, None}
 use Rattle.level.specs.Sound.{parameters}
 use Rattle.level.specs.Tables.{nth}
@@ -36,3 +37,9 @@ parameters-some ss (suc s) p h e =
   let z : suc s - 1 ≡ s = omega arith in
   let k = nth-some ss s p 0 (rw z at e) in
   (let j = k .0 in omega arith, k .1)
+
+pub parameters-none : (ss : List ℕ) (s : ℕ) → 1 ≤ s → None ≡ nth ss (s - 1) → parameters ss s ≡ 0
+parameters-none ss zero h e = absurd (omega arith)
+parameters-none ss (suc s) h e =
+  let z : suc s - 1 ≡ s = omega arith in
+  getD-past ss s 0 (nth-none ss s (rw z at e))

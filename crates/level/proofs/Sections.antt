@@ -22,7 +22,7 @@ pub each-push : {A : Type 0} (P : A → Type 0) (xs : List A) (x : A) → Each P
 each-push P [] x e p = (p, tt)
 each-push P (y ∷ xs) x e p = (e .0, each-push P xs x (e .1) p)
 
-all-push : {A : Type 0} (s : A → List ℕ) (xs : List A) (x : A) (l : List ℕ) → all s (xs ++ (x ∷ [])) ++ l ≡ all s xs ++ (s x ++ l)
+pub all-push : {A : Type 0} (s : A → List ℕ) (xs : List A) (x : A) (l : List ℕ) → all s (xs ++ (x ∷ [])) ++ l ≡ all s xs ++ (s x ++ l)
 all-push s [] x l = rw append-nil
 all-push s (y ∷ xs) x l = append-assoc (s y) (all s (xs ++ (x ∷ []))) l ∙ (ap (λ z. s y ++ z) (all-push s xs x l) ∙ sym (append-assoc (s y) (all s xs) (s x ++ l)))
 
@@ -43,6 +43,12 @@ module _ {A : Type 0} (I : List A → Type 0) (s : A → List ℕ) (c k : ℕ) (
 
   pub many-reads : (most : ℕ) (bs : List ℕ) → Bytes bs → I [] → Reads (Few most) (all s) bs (many c k item most [] bs)
   many-reads most bs y i = let e : 0 + most ≡ most = omega arith in subst (λ z. Reads (Few z) (all s) bs (many c k item most [] bs)) e (from-reads most [] bs y i)
+
+-- where an item does not depend on those before it
+each-reads : {A : Type 0} (P : A → Type 0) (s : A → List ℕ) (c k : ℕ) (item : List ℕ → Read A)
+  → ((bs : List ℕ) → Bytes bs → k ≤ length bs → at bs 0 ≡ c → Reads P s bs (item bs))
+  → (most : ℕ) (bs : List ℕ) → Bytes bs → Reads (λ xs. (length xs ≤ most) × Each P xs) (all s) bs (many c k (λ _. item) most [] bs)
+each-reads P s c k item f most bs y = many-reads (Each P) s c k (λ _. item) (λ xs bs y h b i. reads-weaker P _ s (λ x v. each-push P xs x i v) bs _ (f bs y h b)) most bs y tt
 
 -- of each item after those before it
 abbrev pub Along : {A : Type 0} → (List A → A → Type 0) → List A → List A → Type 0
@@ -78,53 +84,57 @@ module _ {A : Type 0} (G : List A → A → Type 0) (F : List ℕ → Type 0) (s
 abbrev SoundSignal : ℕ → Type 0
 SoundSignal n = n ≤ 2
 
-pub signals-reads : (most : ℕ) (bs : List ℕ) → Bytes bs → Reads (λ xs. (length xs ≤ most) × Each (λ n. n ≤ 2) xs) (all signal) bs (many 0x01 2 read-signal most [] bs)
-signals-reads most bs y = many-reads (Each SoundSignal) signal 0x01 2 read-signal (λ xs bs y h b i.
-    reads-operand (λ x. Each SoundSignal (xs ++ (x ∷ []))) signal bs 1 0 3 bs _ (λ z u. (front 2 bs h ∙ rw b, each-push SoundSignal xs (at bs 1) i (omega arith)))) most bs y tt
+pub signal-reads : (bs : List ℕ) → Bytes bs → 2 ≤ length bs → at bs 0 ≡ 0x01 → Reads (λ n. n ≤ 2) signal bs (read-signal bs)
+signal-reads bs y h b = reads-operand SoundSignal signal bs 1 0 3 bs _ (λ z u. (front 2 bs h ∙ rw b, omega arith))
 
-pub signals-read : (most : ℕ) (ss : List ℕ) (l : List ℕ) → length ss ≤ most → Each (λ n. n ≤ 2) ss → eqb (at l 0) 0x01 ≡ false → many 0x01 2 read-signal most [] (all signal ss ++ l) ≡ got ss l
+pub signals-reads : (most : ℕ) (bs : List ℕ) → Bytes bs → Reads (λ xs. (length xs ≤ most) × Each (λ n. n ≤ 2) xs) (all signal) bs (many 0x01 2 (λ _. read-signal) most [] bs)
+signals-reads most bs y = each-reads SoundSignal signal 0x01 2 read-signal signal-reads most bs y
+
+pub signals-read : (most : ℕ) (ss : List ℕ) (l : List ℕ) → length ss ≤ most → Each (λ n. n ≤ 2) ss → eqb (at l 0) 0x01 ≡ false → many 0x01 2 (λ _. read-signal) most [] (all signal ss ++ l) ≡ got ss l
 signals-read most ss l h e b =
-    many-read (λ _. SoundSignal) (λ _. Unit) signal 0x01 2 read-signal (λ x m. tt) (λ x m. refl) (λ x m. omega arith) (λ xs x m p f. rw (inside 0 x 3 (omega arith) (omega arith)))
+    many-read (λ _. SoundSignal) (λ _. Unit) signal 0x01 2 (λ _. read-signal) (λ x m. tt) (λ x m. refl) (λ x m. omega arith) (λ xs x m p f. rw (inside 0 x 3 (omega arith) (omega arith)))
       most ss l h (along-each SoundSignal [] ss e) tt b
 
 -- starting numbers
-starts-reads : (n most : ℕ) (bs : List ℕ) → Bytes bs → Reads (λ xs. (length xs ≤ most) × Each (SoundStart n) xs) (all start) bs (read-starts n most bs)
-starts-reads n most bs y = many-reads (Each (SoundStart n)) start 0x05 6 (read-start n) (λ xs bs y h b i.
-    reads-operand (λ x. Each (SoundStart n) (xs ++ (x ∷ []))) start bs 1 0 n bs _ (λ z u.
-      (front 6 bs h ∙ rw b (ap (λ w. 0x05 ∷ (at bs 1 ∷ (w ++ drop 6 bs))) (sym (word-number bs y 2 3 4 5))),
-       each-push (SoundStart n) xs _ i (record { number = u; value = fits-number bs y 2 3 4 5 })))) most bs y tt
+pub start-reads : (n : ℕ) (bs : List ℕ) → Bytes bs → 6 ≤ length bs → at bs 0 ≡ 0x05 → Reads (SoundStart n) start bs (read-start n bs)
+start-reads n bs y h b = reads-operand (SoundStart n) start bs 1 0 n bs _ (λ z u.
+    (front 6 bs h ∙ rw b (ap (λ w. 0x05 ∷ (at bs 1 ∷ (w ++ drop 6 bs))) (sym (word-number bs y 2 3 4 5))), record { number = u; value = fits-number bs y 2 3 4 5 }))
 
-start-read : (n : ℕ) (s : Start) (l : List ℕ) → SoundStart n s → read-start n [] (start s ++ l) ≡ got s l
+starts-reads : (n most : ℕ) (bs : List ℕ) → Bytes bs → Reads (λ xs. (length xs ≤ most) × Each (SoundStart n) xs) (all start) bs (read-starts n most bs)
+starts-reads n most bs y = each-reads (SoundStart n) start 0x05 6 (read-start n) (start-reads n) most bs y
+
+start-read : (n : ℕ) (s : Start) (l : List ℕ) → SoundStart n s → read-start n (start s ++ l) ≡ got s l
 start-read n s l v = rw (inside 0 (s .number) n (omega arith) (v .number)) (ap (λ z. got (record { number = s .number; value = z }) l) (number-word (s .value) (v .value) (ofZ w32 (s .value)) refl))
 
 starts-read : (n most : ℕ) (ss : List Start) (l : List ℕ) → length ss ≤ most → Each (SoundStart n) ss → eqb (at l 0) 0x05 ≡ false → read-starts n most (all start ss ++ l) ≡ got ss l
 starts-read n most ss l h e b =
-    many-read (λ _. SoundStart n) (λ _. Unit) start 0x05 6 (read-start n) (λ x m. tt) (λ x m. refl) (λ x m. omega arith) (λ xs x m p f. start-read n x m p)
+    many-read (λ _. SoundStart n) (λ _. Unit) start 0x05 6 (λ _. read-start n) (λ x m. tt) (λ x m. refl) (λ x m. omega arith) (λ xs x m p f. start-read n x m p)
       most ss l h (along-each (SoundStart n) [] ss e) tt b
 
 -- pieces
 module _ (kinds : List Kind) where
-  pub pieces-reads : (most : ℕ) (bs : List ℕ) → Bytes bs → Reads (λ xs. (length xs ≤ most) × Each (SoundPiece kinds) xs) (all piece) bs (many 0x04 2 (read-piece kinds) most [] bs)
-  pieces-reads most bs y = many-reads (Each (SoundPiece kinds)) piece 0x04 2 (read-piece kinds) (λ xs bs y h b i.
-    reads-operand (λ x. Each (SoundPiece kinds) (xs ++ (x ∷ []))) piece bs 1 0 (length kinds) bs _ (λ z u.
-    reads-then _ _ (λ x. Each (SoundPiece kinds) (xs ++ (x ∷ []))) piece (drop 2 bs) bs (read-starts (numbers-of kinds (at bs 1)) (length bs) (drop 2 bs)) _ (bytes-drop 2 bs y)
-      (starts-reads (numbers-of kinds (at bs 1)) (length bs) (drop 2 bs) (bytes-drop 2 bs y)) (λ ss l w q v.
-      (front 2 bs h ∙ rw (b, q), each-push (SoundPiece kinds) xs _ i (record { kind = u; starts = v .1 }))))) most bs y tt
+  pub piece-reads : (bs : List ℕ) → Bytes bs → 2 ≤ length bs → at bs 0 ≡ 0x04 → Reads (SoundPiece kinds) piece bs (read-piece kinds bs)
+  piece-reads bs y h b = reads-operand (SoundPiece kinds) piece bs 1 0 (length kinds) bs _ (λ z u.
+    reads-then _ _ (SoundPiece kinds) piece (drop 2 bs) bs (read-starts (numbers-of kinds (at bs 1)) (length bs) (drop 2 bs)) _ (bytes-drop 2 bs y)
+      (starts-reads (numbers-of kinds (at bs 1)) (length bs) (drop 2 bs) (bytes-drop 2 bs y)) (λ ss l w q v. (front 2 bs h ∙ rw (b, q), record { kind = u; starts = v .1 })))
+
+  pub pieces-reads : (most : ℕ) (bs : List ℕ) → Bytes bs → Reads (λ xs. (length xs ≤ most) × Each (SoundPiece kinds) xs) (all piece) bs (many 0x04 2 (λ _. read-piece kinds) most [] bs)
+  pieces-reads most bs y = each-reads (SoundPiece kinds) piece 0x04 2 (read-piece kinds) piece-reads most bs y
 
   starts-short : (ss : List Start) → length ss ≤ length (all start ss)
   starts-short [] = omega arith
   starts-short (s ∷ ss) = let k = starts-short ss in omega arith
 
-  piece-read : (p : Piece) (l : List ℕ) → SoundPiece kinds p → eqb (at l 0) 0x05 ≡ false → read-piece kinds [] (piece p ++ l) ≡ got p l
+  piece-read : (p : Piece) (l : List ℕ) → SoundPiece kinds p → eqb (at l 0) 0x05 ≡ false → read-piece kinds (piece p ++ l) ≡ got p l
   piece-read p l v b =
     let h = starts-short (p .starts) in
     let j = length-append (all start (p .starts)) l in
     rw (inside 0 (p .kind) (length kinds) (omega arith) (v .kind), starts-read (numbers-of kinds (p .kind)) (length (piece p ++ l)) (p .starts) l (omega arith) (v .starts) b)
 
   pub pieces-read : (most : ℕ) (ps : List Piece) (l : List ℕ) → length ps ≤ most → Each (SoundPiece kinds) ps → eqb (at l 0) 0x05 ≡ false → eqb (at l 0) 0x04 ≡ false
-    → many 0x04 2 (read-piece kinds) most [] (all piece ps ++ l) ≡ got ps l
+    → many 0x04 2 (λ _. read-piece kinds) most [] (all piece ps ++ l) ≡ got ps l
   pieces-read most ps l h e a b =
-    many-read (λ _. SoundPiece kinds) (λ l. eqb (at l 0) 0x05 ≡ false) piece 0x04 2 (read-piece kinds) (λ x m. refl) (λ x m. refl) (λ x m. omega arith) (λ xs x m p f. piece-read x m p f)
+    many-read (λ _. SoundPiece kinds) (λ l. eqb (at l 0) 0x05 ≡ false) piece 0x04 2 (λ _. read-piece kinds) (λ x m. refl) (λ x m. refl) (λ x m. omega arith) (λ xs x m p f. piece-read x m p f)
       most ps l h (along-each (SoundPiece kinds) [] ps e) a b
 
 -- kinds, in a level whose signals have at most two parameters
@@ -134,15 +144,14 @@ module _ (signals : List ℕ) (few : Each (λ n. n ≤ 2) signals) where
   most-two (s ∷ ss) zero e = e .0
   most-two (s ∷ ss) (suc k) e = most-two ss k (e .1)
 
-  two-parameters : (s : ℕ) → parameters signals s ≤ 2
+  pub two-parameters : (s : ℕ) → parameters signals s ≤ 2
   two-parameters zero = omega arith
   two-parameters (suc s) = most-two signals s few
 
-  transitions-reads : (n m most : ℕ) (bs : List ℕ) → Bytes bs
+  pub transitions-reads : (n m most : ℕ) (bs : List ℕ) → Bytes bs
     → Reads (λ ts. (length ts ≤ most) × Each (SoundTransition signals n m) ts) (all transition) bs (read-transitions signals n m most bs)
-  transitions-reads n m most bs y = many-reads (Each (SoundTransition signals n m)) transition 0x03 6 (λ _. read-transition signals n m) (λ xs bs y h b i.
-    reads-weaker (SoundTransition signals n m) _ transition (λ t v. each-push (SoundTransition signals n m) xs t i v) bs _
-      (transition-reads signals n m bs y h b (two-parameters (at bs 3)))) most bs y tt
+  transitions-reads n m most bs y = each-reads (SoundTransition signals n m) transition 0x03 6 (read-transition signals n m)
+    (λ bs y h b. transition-reads signals n m bs y h b (two-parameters (at bs 3))) most bs y
 
   transition-wide : (t : Transition) (l : List ℕ) → 6 ≤ length (transition t ++ l)
   transition-wide t l =
@@ -169,20 +178,23 @@ module _ (signals : List ℕ) (few : Each (λ n. n ≤ 2) signals) where
   count-push [] k = omega arith
   count-push (x ∷ ks) k = let h = count-push ks k in omega arith
 
-  pub kinds-reads : (most : ℕ) (bs : List ℕ) → Bytes bs → Reads (λ ks. (length ks ≤ most) × SoundKinds ks) (all kind) bs (many 0x02 3 (read-kind signals) most [] bs)
-  kinds-reads most bs y = many-reads SoundKinds kind 0x02 3 (read-kind signals) (λ xs bs y h b i.
-    reads-operand (λ x. SoundKinds (xs ++ (x ∷ []))) kind bs 1 0 9 bs _ (λ z u. reads-operand (λ x. SoundKinds (xs ++ (x ∷ []))) kind bs 2 1 17 bs _ (λ z′ u′.
-    reads-then _ _ (λ x. SoundKinds (xs ++ (x ∷ []))) kind (drop 3 bs) bs (read-transitions signals (at bs 1) (at bs 2) (most-transitions - count xs) (drop 3 bs)) _ (bytes-drop 3 bs y)
-      (transitions-reads (at bs 1) (at bs 2) (most-transitions - count xs) (drop 3 bs) (bytes-drop 3 bs y)) (λ ts l w q v.
-      let k : Kind = record { numbers = at bs 1; states = at bs 2; transitions = ts } in
-      (front 3 bs h ∙ rw (b, q),
-       (let j = count-push xs k in let n = v .0 in let g = i .0 in omega arith,
-        each-push (SoundKind signals) xs k (i .1) (record { numbers = omega arith; some = z′; states = omega arith; transitions = v .1 }))))))) most bs y (omega arith, tt)
+  pub kind-reads : (used : ℕ) (bs : List ℕ) → Bytes bs → 3 ≤ length bs → at bs 0 ≡ 0x02
+    → Reads (λ k. SoundKind signals k × (length (k .transitions) ≤ most-transitions - used)) kind bs (read-kind signals used bs)
+  kind-reads used bs y h b =
+    let S : Kind → Type 0 = λ k. SoundKind signals k × (length (k .transitions) ≤ most-transitions - used) in
+    reads-operand S kind bs 1 0 9 bs _ (λ z u. reads-operand S kind bs 2 1 17 bs _ (λ z′ u′.
+    reads-then _ _ S kind (drop 3 bs) bs (read-transitions signals (at bs 1) (at bs 2) (most-transitions - used) (drop 3 bs)) _ (bytes-drop 3 bs y)
+      (transitions-reads (at bs 1) (at bs 2) (most-transitions - used) (drop 3 bs) (bytes-drop 3 bs y)) (λ ts l w q v.
+      (front 3 bs h ∙ rw (b, q), (record { numbers = omega arith; some = z′; states = omega arith; transitions = v .1 }, v .0)))))
+
+  pub kinds-reads : (most : ℕ) (bs : List ℕ) → Bytes bs → Reads (λ ks. (length ks ≤ most) × SoundKinds ks) (all kind) bs (many 0x02 3 (λ ks. read-kind signals (count ks)) most [] bs)
+  kinds-reads most bs y = many-reads SoundKinds kind 0x02 3 (λ ks. read-kind signals (count ks)) (λ xs bs y h b i.
+    reads-weaker _ _ kind (λ k v. (let j = count-push xs k in let n = v .1 in let g = i .0 in omega arith, each-push (SoundKind signals) xs k (i .1) (v .0))) bs _ (kind-reads (count xs) bs y h b)) most bs y (omega arith, tt)
 
   abbrev Fits : List Kind → Kind → Type 0
   Fits before k = SoundKind signals k × (length (k .transitions) ≤ most-transitions - count before)
 
-  kind-read : (before : List Kind) (k : Kind) (l : List ℕ) → Fits before k → eqb (at l 0) 0x03 ≡ false → read-kind signals before (kind k ++ l) ≡ got k l
+  kind-read : (before : List Kind) (k : Kind) (l : List ℕ) → Fits before k → eqb (at l 0) 0x03 ≡ false → read-kind signals (count before) (kind k ++ l) ≡ got k l
   kind-read before k l v b =
     let n = v .0 .numbers in
     let m = v .0 .states in
@@ -194,7 +206,7 @@ module _ (signals : List ℕ) (few : Each (λ n. n ≤ 2) signals) where
   all-fit xs (y ∷ ys) h e = ((e .0, omega arith), all-fit (xs ++ (y ∷ [])) ys (let j = count-push xs y in omega arith) (e .1))
 
   pub kinds-read : (most : ℕ) (ks : List Kind) (l : List ℕ) → length ks ≤ most → count ks ≤ most-transitions → Each (SoundKind signals) ks → eqb (at l 0) 0x03 ≡ false → eqb (at l 0) 0x02 ≡ false
-    → many 0x02 3 (read-kind signals) most [] (all kind ks ++ l) ≡ got ks l
+    → many 0x02 3 (λ ks. read-kind signals (count ks)) most [] (all kind ks ++ l) ≡ got ks l
   kinds-read most ks l h t e a b =
-    many-read Fits (λ l. eqb (at l 0) 0x03 ≡ false) kind 0x02 3 (read-kind signals) (λ x m. refl) (λ x m. refl) (λ x m. omega arith) kind-read
+    many-read Fits (λ l. eqb (at l 0) 0x03 ≡ false) kind 0x02 3 (λ ks. read-kind signals (count ks)) (λ x m. refl) (λ x m. refl) (λ x m. omega arith) kind-read
       most ks l h (all-fit [] ks (omega arith) e) a b

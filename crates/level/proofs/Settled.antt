@@ -135,7 +135,7 @@ module _ (cs : List ℕ) where
     effect-firm (suc k) bs = end-firm bs _ _ (firm-then (read-stmt signals n bs) _ _ (stmt-firm bs) (λ c. used-then (read-effect signals n k []) _ (effect-used k) (λ x. tt)) (λ c l.
       firm-then (read-effect signals n k l) _ _ (effect-firm k l) (λ x. tt) (λ x m. firm-got (c ∷ x) m)))
 
-    receiver-firm : (t : Bool) (k : ℕ) (bs : List ℕ) (x y : Read Transition) → k < length bs → Firm x y → Firm (receiver signals n t k bs x) (receiver signals n t k (bs ++ cs) y)
+    receiver-firm : (t : Bool) (k : ℕ) (bs : List ℕ) (x y : Read Transition) → k < length bs → Firm x y → Firm (receiver n t k bs x) (receiver n t k (bs ++ cs) y)
     receiver-firm true k bs x y h f = firm-operand k 0 n bs x y h f
     receiver-firm false k bs x y h f = firm-operand k 0xFF 0x100 bs x y h f
 
@@ -161,27 +161,27 @@ module _ (cs : List ℕ) where
       firm-then (item xs (b ∷ bs)) _ _ (ih xs (b ∷ bs) h) (λ x. many-used left (xs ++ (x ∷ []))) (λ x l. many-firm left (xs ++ (x ∷ [])) l))) (firm-got xs (b ∷ bs))
 
   signals-firm : (bs : List ℕ) → Firm (read-signals bs) (read-signals (bs ++ cs))
-  signals-firm bs = many-firm 0x01 2 refl read-signal (λ xs bs h. firm-operand 1 0 3 bs _ _ (omega arith) (rw (at-front bs cs 1 (omega arith), drop-append-le 2 bs cs h) (firm-got _ (drop 2 bs)))) most-signals [] bs
+  signals-firm bs = many-firm 0x01 2 refl (λ _. read-signal) (λ xs bs h. firm-operand 1 0 3 bs _ _ (omega arith) (rw (at-front bs cs 1 (omega arith), drop-append-le 2 bs cs h) (firm-got _ (drop 2 bs)))) most-signals [] bs
 
   module _ (signals : List ℕ) where
-    kind-firm : (before : List Kind) (bs : List ℕ) → 3 ≤ length bs → Firm (read-kind signals before bs) (read-kind signals before (bs ++ cs))
-    kind-firm before bs h = firm-operand 1 0 9 bs _ _ (omega arith) (firm-operand 2 1 17 bs _ _ (omega arith)
+    kind-firm : (used : ℕ) (bs : List ℕ) → 3 ≤ length bs → Firm (read-kind signals used bs) (read-kind signals used (bs ++ cs))
+    kind-firm used bs h = firm-operand 1 0 9 bs _ _ (omega arith) (firm-operand 2 1 17 bs _ _ (omega arith)
       (rw (at-front bs cs 1 (omega arith), at-front bs cs 2 (omega arith), drop-append-le 3 bs cs h)
-        (firm-then (read-transitions signals (at bs 1) (at bs 2) (most-transitions - count before) (drop 3 bs)) _ _
-          (many-firm 0x03 6 refl (λ _. read-transition signals (at bs 1) (at bs 2)) (λ _. transition-firm signals (at bs 1) (at bs 2)) (most-transitions - count before) [] (drop 3 bs)) (λ ts. tt) (λ ts l. firm-got _ l))))
+        (firm-then (read-transitions signals (at bs 1) (at bs 2) (most-transitions - used) (drop 3 bs)) _ _
+          (many-firm 0x03 6 refl (λ _. read-transition signals (at bs 1) (at bs 2)) (λ _. transition-firm signals (at bs 1) (at bs 2)) (most-transitions - used) [] (drop 3 bs)) (λ ts. tt) (λ ts l. firm-got _ l))))
 
     kinds-used : Used (read-kinds signals [])
-    kinds-used = many-used 0x02 3 refl (read-kind signals) kind-firm most-kinds []
+    kinds-used = many-used 0x02 3 refl (λ ks. read-kind signals (count ks)) (λ ks. kind-firm (count ks)) most-kinds []
 
     kinds-firm : (bs : List ℕ) → Firm (read-kinds signals bs) (read-kinds signals (bs ++ cs))
-    kinds-firm bs = many-firm 0x02 3 refl (read-kind signals) kind-firm most-kinds [] bs
+    kinds-firm bs = many-firm 0x02 3 refl (λ ks. read-kind signals (count ks)) (λ ks. kind-firm (count ks)) most-kinds [] bs
 
-  start-firm : (n : ℕ) (xs : List Start) (bs : List ℕ) → 6 ≤ length bs → Firm (read-start n xs bs) (read-start n xs (bs ++ cs))
-  start-firm n xs bs h = firm-operand 1 0 n bs _ _ (omega arith)
+  start-firm : (n : ℕ) (bs : List ℕ) → 6 ≤ length bs → Firm (read-start n bs) (read-start n (bs ++ cs))
+  start-firm n bs h = firm-operand 1 0 n bs _ _ (omega arith)
     (rw (at-front bs cs 1 (omega arith), at-front bs cs 2 (omega arith), at-front bs cs 3 (omega arith), at-front bs cs 4 (omega arith), at-front bs cs 5 (omega arith), drop-append-le 6 bs cs h) (firm-got _ (drop 6 bs)))
 
   -- starting numbers: there are never more of them than bytes, so a higher limit changes nothing
-  more-limit : (n left more : ℕ) (xs : List Start) (bs : List ℕ) → length bs ≤ left → length bs ≤ more → many 0x05 6 (read-start n) left xs bs ≡ many 0x05 6 (read-start n) more xs bs
+  more-limit : (n left more : ℕ) (xs : List Start) (bs : List ℕ) → length bs ≤ left → length bs ≤ more → many 0x05 6 (λ _. read-start n) left xs bs ≡ many 0x05 6 (λ _. read-start n) more xs bs
   more-limit n zero zero xs bs h k = refl
   more-limit n zero (suc more) xs [] h k = refl
   more-limit n zero (suc more) xs (b ∷ bs) h k = absurd (omega arith)
@@ -192,27 +192,27 @@ module _ (cs : List ℕ) where
     let f = length-drop 5 bs in
     ap (λ r. when (eqb b 0x05) (room 6 (b ∷ bs) r) (got xs (b ∷ bs))) (same (leb 0 (at (b ∷ bs) 1) && ltb (at (b ∷ bs) 1) n) _ (λ x. more-limit n left more (xs ++ (x ∷ [])) (drop 5 bs) (omega arith) (omega arith)))
     where
-      same : (t : Bool) (s : Start) → ((x : Start) → many 0x05 6 (read-start n) left (xs ++ (x ∷ [])) (drop 5 bs) ≡ many 0x05 6 (read-start n) more (xs ++ (x ∷ [])) (drop 5 bs))
-        → then (when t (got s (drop 5 bs)) (fault (Operand OutOfRange) (b ∷ bs))) (λ x l. many 0x05 6 (read-start n) left (xs ++ (x ∷ [])) l)
-          ≡ then (when t (got s (drop 5 bs)) (fault (Operand OutOfRange) (b ∷ bs))) (λ x l. many 0x05 6 (read-start n) more (xs ++ (x ∷ [])) l)
+      same : (t : Bool) (s : Start) → ((x : Start) → many 0x05 6 (λ _. read-start n) left (xs ++ (x ∷ [])) (drop 5 bs) ≡ many 0x05 6 (λ _. read-start n) more (xs ++ (x ∷ [])) (drop 5 bs))
+        → then (when t (got s (drop 5 bs)) (fault (Operand OutOfRange) (b ∷ bs))) (λ x l. many 0x05 6 (λ _. read-start n) left (xs ++ (x ∷ [])) l)
+          ≡ then (when t (got s (drop 5 bs)) (fault (Operand OutOfRange) (b ∷ bs))) (λ x l. many 0x05 6 (λ _. read-start n) more (xs ++ (x ∷ [])) l)
       same true s f = f s
       same false s f = refl
 
   module _ (kinds : List Kind) where
-    piece-firm : (xs : List Piece) (bs : List ℕ) → 2 ≤ length bs → Firm (read-piece kinds xs bs) (read-piece kinds xs (bs ++ cs))
-    piece-firm xs bs h =
+    piece-firm : (bs : List ℕ) → 2 ≤ length bs → Firm (read-piece kinds bs) (read-piece kinds (bs ++ cs))
+    piece-firm bs h =
       let f = length-drop 2 bs in
       let g = length-append bs cs in
       let e = more-limit (numbers-of kinds (at bs 1)) (length bs) (length (bs ++ cs)) [] (drop 2 bs) (omega arith) (omega arith) in
       firm-operand 1 0 (length kinds) bs _ _ (omega arith) (rw (at-front bs cs 1 (omega arith), drop-append-le 2 bs cs h, e)
         (firm-then (read-starts (numbers-of kinds (at bs 1)) (length (bs ++ cs)) (drop 2 bs)) _ _
-          (many-firm 0x05 6 refl (read-start (numbers-of kinds (at bs 1))) (start-firm (numbers-of kinds (at bs 1))) (length (bs ++ cs)) [] (drop 2 bs)) (λ ss. tt) (λ ss l. firm-got _ l)))
+          (many-firm 0x05 6 refl (λ _. read-start (numbers-of kinds (at bs 1))) (λ _. start-firm (numbers-of kinds (at bs 1))) (length (bs ++ cs)) [] (drop 2 bs)) (λ ss. tt) (λ ss l. firm-got _ l)))
 
     pieces-used : Used (read-pieces kinds [])
-    pieces-used = many-used 0x04 2 refl (read-piece kinds) piece-firm most-pieces []
+    pieces-used = many-used 0x04 2 refl (λ _. read-piece kinds) (λ _. piece-firm) most-pieces []
 
     pieces-firm : (bs : List ℕ) → Firm (read-pieces kinds bs) (read-pieces kinds (bs ++ cs))
-    pieces-firm bs = many-firm 0x04 2 refl (read-piece kinds) piece-firm most-pieces [] bs
+    pieces-firm bs = many-firm 0x04 2 refl (λ _. read-piece kinds) (λ _. piece-firm) most-pieces [] bs
 
   last-firm : (bs : List ℕ) → Firm (read-end bs) (read-end (bs ++ cs))
   last-firm [] = inl refl

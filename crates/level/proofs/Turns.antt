@@ -6,7 +6,8 @@ use native.Mathlib.Omega.{arith}
 use Rattle.std.specs.declared.result.Result.{Result}
 use Rattle.std.specs.declared.result.Result.the-variants.{Ok, Err}
 use Rattle.level.specs.declared.fault.Reason.{Reason}
-use Rattle.level.specs.Reading.{Read, got, bad, fault, then, answered, remains, nothing, Gives}
+use Rattle.level.specs.Reading.{Read, got, bad, fault, then}
+use Rattle.level.specs.Readers.{answered, remains, nothing, Gives}
 
 module _ {A B : Type 0} (f : A → B) (R : Read A) where
   -- a reader that stops, or is done, by itself
@@ -56,10 +57,10 @@ module _ {A C : Type 0} (R : Read C) (F : List ℕ → Read A) (k : A → List �
   broke f g e l h s q = rw (begins, q) (hands-on f (F y) g k e l (subst (λ z. Gives f (F z) (Err e) l) same h))
 
   -- it answered, and reading goes on from there
-  pub goes-on : {B : Type 0} (f : A → B) (b : B) (l : List ℕ) → Gives f (F x) (Ok b) l → (a : A) × (R ≡ k a l) × (b ≡ f a)
+  pub goes-on : {B : Type 0} (f : A → B) (b : B) (l : List ℕ) → Gives f (F x) (Ok b) l → (a : A) × (R ≡ k a l) × (b ≡ f a) × (F y ≡ got a l)
   goes-on f b l h =
     let w = went f (F y) b l (subst (λ z. Gives f (F z) (Ok b) l) same h) in
-    (w .0, begins ∙ ap (λ z. then z k) (w .1), w .2)
+    (w .0, begins ∙ ap (λ z. then z k) (w .1), w .2, w .1)
 
 -- it was the last, and only whether it was read counts
 pub tail : {A C : Type 0} (R : Read C) (F : List ℕ → Read A) (G : A → C) (x y : List ℕ) → R ≡ then (F y) (λ a m. got (G a) m) → x ≡ y

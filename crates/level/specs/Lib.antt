@@ -5,6 +5,7 @@ pub mod Faults
 pub mod Reading
 pub mod Places
 pub mod Tables
+pub mod Readers
 pub mod Entries
 pub mod Contents
 pub mod Levels

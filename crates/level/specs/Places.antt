@@ -19,10 +19,14 @@ pub record Placed : Type 0 where
 abbrev pub effect-place : Placed → ℕ
 effect-place x = x .guard + size (x .transition .guard)
 
--- the transitions of kind `k` of `n` numbers, the first of which stands at `i`
+-- a transition of kind `k` of `n` numbers that stands at `i`: its command and operands take six bytes
+abbrev pub placed-at : ℕ → ℕ → ℕ → Transition → Placed
+placed-at k n i t = record { kind = k; numbers = n; guard = i + 6; transition = t }
+
+-- the transitions of a kind, the first of which stands at `i`
 abbrev pub in-kind : ℕ → ℕ → ℕ → List Transition → List Placed
 in-kind k n i [] = []
-in-kind k n i (t ∷ ts) = record { kind = k; numbers = n; guard = i + 6; transition = t } ∷ in-kind k n (i + length (transition t)) ts
+in-kind k n i (t ∷ ts) = placed-at k n i t ∷ in-kind k n (i + length (transition t)) ts
 
 -- those of the kinds from number `k` on, the first of which stands at `i`
 abbrev pub in-kinds : ℕ → ℕ → List Kind → List Placed

@@ -1,7 +1,6 @@
 -- How bytes are read as a level, from the left, up to its end or the first fault met.
 use mathlib.Core.Bool.{Bool, true, false, cond, _&&_}
 use mathlib.Core.List.{List, [], _∷_, _++_}
-use mathlib.Core.Path.{_≡_}
 use Prim.Native.Nat.{ℕ, zero, suc, _+_, _-_, _*_}
 use lib.Dec.{leb, ltb, eqb}
 use lib.IntN.{ℤ}
@@ -119,6 +118,15 @@ orders = entry 0x20 an-assign ∷ (entry 0x21 a-store ∷ (entry 0x22 a-send ∷
 abbrev pub order : ℕ → Option Order
 order b = look orders b
 
+-- the place of receiving at byte `k`, in a kind of `n` numbers: a number where a parameter stands, else FF
+abbrev pub receiver : {A : Type 0} → ℕ → Bool → ℕ → List ℕ → Read A → Read A
+receiver n true k bs r = operand k 0 n bs r
+receiver n false k bs r = operand k 0xFF 0x100 bs r
+
+abbrev pub received : Bool → ℕ → List ℕ
+received true a = a ∷ []
+received false a = []
+
 -- in a level of these signals, in a kind of `n` numbers
 module _ (signals : List ℕ) (n : ℕ) where
   abbrev pub read-order : List ℕ → Order → Read Stmt
@@ -140,15 +148,6 @@ module _ (signals : List ℕ) (n : ℕ) where
   read-effect zero bs = end-or bs (fault TooManyStatements bs)
   read-effect (suc k) bs = end-or bs (then (read-stmt bs) (λ c l. then (read-effect k l) (λ cs m. got (c ∷ cs) m)))
 
-  -- the place of receiving at byte `k`: a number where a parameter stands, else FF
-  abbrev pub receiver : {A : Type 0} → Bool → ℕ → List ℕ → Read A → Read A
-  receiver true k bs r = operand k 0 n bs r
-  receiver false k bs r = operand k 0xFF 0x100 bs r
-
-  abbrev pub received : Bool → ℕ → List ℕ
-  received true a = a ∷ []
-  received false a = []
-
   -- the guard and the effect of a transition from `f` to `t` on signal `s`
   abbrev pub read-code : ℕ → ℕ → ℕ → List ℕ → List ℕ → Read Transition
   read-code f t s ps bs = then (read-expr deepest n bs) (λ e l. then (read-effect most-statements l) (λ cs r.
@@ -156,7 +155,7 @@ module _ (signals : List ℕ) (n : ℕ) where
 
   -- its places of receiving, where the signal has `c` parameters
   abbrev pub read-received : ℕ → List ℕ → Read Transition
-  read-received c bs = receiver (ltb 0 c) 4 bs (receiver (ltb 1 c) 5 bs
+  read-received c bs = receiver n (ltb 0 c) 4 bs (receiver n (ltb 1 c) 5 bs
       (read-code (at bs 1) (at bs 2) (at bs 3) (received (ltb 0 c) (at bs 4) ++ received (ltb 1 c) (at bs 5)) (drop 6 bs)))
 
   -- a transition in a kind of `m` states
@@ -171,40 +170,41 @@ many c k item zero xs bs = when (eqb (at bs 0) c) (room k bs (fault (Operand Too
 many c k item (suc left) xs bs =
     when (eqb (at bs 0) c) (room k bs (then (item xs bs) (λ x l. many c k item left (xs ++ (x ∷ [])) l))) (got xs bs)
 
-abbrev pub read-signal : List ℕ → List ℕ → Read ℕ
-read-signal before bs = operand 1 0 3 bs (got (at bs 1) (drop 2 bs))
+abbrev pub read-signal : List ℕ → Read ℕ
+read-signal bs = operand 1 0 3 bs (got (at bs 1) (drop 2 bs))
 
 abbrev pub read-signals : List ℕ → Read (List ℕ)
-read-signals bs = many 0x01 2 read-signal most-signals [] bs
+read-signals bs = many 0x01 2 (λ before. read-signal) most-signals [] bs
 
 module _ (signals : List ℕ) where
   -- the transitions of a kind of `n` numbers and `m` states, at most `most`
   abbrev pub read-transitions : ℕ → ℕ → ℕ → List ℕ → Read (List Transition)
   read-transitions n m most bs = many 0x03 6 (λ before. read-transition signals n m) most [] bs
 
-  abbrev pub read-kind : List Kind → List ℕ → Read Kind
-  read-kind before bs = operand 1 0 9 bs (operand 2 1 17 bs (
-      then (read-transitions (at bs 1) (at bs 2) (most-transitions - count before) (drop 3 bs)) (λ ts l.
+  -- a kind, after so many transitions of others
+  abbrev pub read-kind : ℕ → List ℕ → Read Kind
+  read-kind used bs = operand 1 0 9 bs (operand 2 1 17 bs (
+      then (read-transitions (at bs 1) (at bs 2) (most-transitions - used) (drop 3 bs)) (λ ts l.
         got (record { numbers = at bs 1; states = at bs 2; transitions = ts }) l)))
 
   abbrev pub read-kinds : List ℕ → Read (List Kind)
-  read-kinds bs = many 0x02 3 read-kind most-kinds [] bs
+  read-kinds bs = many 0x02 3 (λ before. read-kind (count before)) most-kinds [] bs
 
-abbrev pub read-start : ℕ → List Start → List ℕ → Read Start
-read-start n before bs =
+abbrev pub read-start : ℕ → List ℕ → Read Start
+read-start n bs =
     operand 1 0 n bs (got (record { number = at bs 1; value = number (at bs 2) (at bs 3) (at bs 4) (at bs 5) }) (drop 6 bs))
 
 -- starting numbers have no limit of their own: there are never more of them than bytes
 abbrev pub read-starts : ℕ → ℕ → List ℕ → Read (List Start)
-read-starts n most bs = many 0x05 6 (read-start n) most [] bs
+read-starts n most bs = many 0x05 6 (λ before. read-start n) most [] bs
 
 module _ (kinds : List Kind) where
-  abbrev pub read-piece : List Piece → List ℕ → Read Piece
-  read-piece before bs = operand 1 0 (length kinds) bs (
+  abbrev pub read-piece : List ℕ → Read Piece
+  read-piece bs = operand 1 0 (length kinds) bs (
       then (read-starts (numbers-of kinds (at bs 1)) (length bs) (drop 2 bs)) (λ ss l. got (record { kind = at bs 1; starts = ss }) l))
 
   abbrev pub read-pieces : List ℕ → Read (List Piece)
-  read-pieces bs = many 0x04 2 read-piece most-pieces [] bs
+  read-pieces bs = many 0x04 2 (λ before. read-piece) most-pieces [] bs
 
 -- the end, and nothing after it
 abbrev pub read-end : List ℕ → Read Unit
@@ -245,25 +245,3 @@ tree-or-empty (Err f) = empty
 -- the level that bytes spell, if they spell one
 abbrev pub tree : List ℕ → Level
 tree bs = tree-or-empty (read bs)
-
--- What a reader in the code answers of what it read, and the bytes that remain before it
-abbrev pub answered : {A B : Type 0} → (A → B) → Read A → Result B Reason
-answered f (got a l) = Ok (f a)
-answered f (bad x) = Err (x .reason)
-
-abbrev pub remains : {A : Type 0} → Read A → List ℕ
-remains (got a l) = l
-remains (bad x) = x .from
-
-abbrev pub nothing : {A : Type 0} → A → Unit {0}
-nothing a = tt
-
--- both at once: the promise of the code's readers, where `f` is what is made of what was read
-pub record Gives {A B : Type 0} (f : A → B) (R : Read A) (r : Result B Reason) (l : List ℕ) : Type 0 where
-  pub answer : r ≡ answered f R
-  pub rest : l ≡ remains R
-
--- what holds of what was read
-abbrev pub Holds : {A : Type 0} → Read A → (A → Type 0) → Type 0
-Holds (got a l) P = P a
-Holds (bad x) P = Unit

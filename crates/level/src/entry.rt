@@ -29,6 +29,16 @@ pub struct PieceEntry {
     pub starts: [i32; 8],
 }
 
+// The operands of a transition.
+#[derive(Clone, Copy)]
+pub struct Head {
+    pub source: u8,
+    pub target: u8,
+    pub signal: u8,
+    pub first: Option<u8>,
+    pub second: Option<u8>,
+}
+
 impl KindEntry {
     pub(crate) const BLANK: KindEntry = KindEntry { numbers: 0, states: 0 };
 }

@@ -3,7 +3,8 @@ use crate::cursor::Cursor;
 use crate::fault::OperandFault;
 use crate::fault::Reason;
 use crate::table::Table;
-ghost use Rattle.level.specs.Reading.{Gives, nothing, read-effect, read-stmt};
+ghost use Rattle.level.specs.Reading.{read-effect, read-stmt};
+ghost use Rattle.level.specs.Readers.{Gives, nothing};
 ghost use Rattle.level.specs.Sound.{most-statements};
 ghost use Rattle.level.specs.Tables.{listed};
 

@@ -2,7 +2,8 @@
 use crate::cursor::Cursor;
 use crate::fault::OperandFault;
 use crate::fault::Reason;
-ghost use Rattle.level.specs.Reading.{Gives, nothing, read-expr, read-exprs};
+ghost use Rattle.level.specs.Reading.{read-expr, read-exprs};
+ghost use Rattle.level.specs.Readers.{Gives, nothing};
 ghost use Rattle.level.specs.Sound.{deepest};
 
 impl<'a> Cursor<'a> {

@@ -2,6 +2,8 @@
 use crate::cursor::Cursor;
 use crate::fault::OperandFault;
 use crate::fault::Reason;
+use crate::fault::ReasonFromOperand;
+use crate::table::Table;
 ghost use mathlib.Core.Bool.{cond, _&&_};
 ghost use mathlib.Core.List.{[]};
 ghost use mathlib.Core.Path.{_≡_};
@@ -13,6 +15,8 @@ ghost use Rattle.std.specs.declared.result.Result.the-variants.{Ok, Err};
 ghost use Rattle.level.specs.declared.fault.OperandFault.the-variants.{OutOfRange};
 ghost use Rattle.level.specs.declared.fault.Reason.the-variants.{Truncated};
 ghost use Rattle.level.specs.Reading.{at};
+ghost use Rattle.level.specs.Readers.{Gives, nothing, opened};
+ghost use Rattle.level.specs.Tables.{listed};
 
 impl<'a> Cursor<'a> {
     // Past so many bytes.
@@ -59,5 +63,16 @@ impl<'a> Cursor<'a> {
         } else {
             Err(OperandFault::OutOfRange)
         }
+    }
+
+    // Whether the next command's bytes are all there, and the table has a place for one entry more.
+    pub fn opens<T: Copy, const N: usize>(&mut self, size: usize, table: &Table<T, N>) -> Result<(), Reason>
+        ensures { λ r. ⌜ Gives nothing (opened size N (length (listed (now (table .entry)))) (now (now (self .entry) .rest))) r (now (now (self .exit) .rest)) ⌝ }
+    {
+        if self.rest.len() < size {
+            return Err(self.truncated());
+        }
+        table.room()?;
+        Ok(())
     }
 }

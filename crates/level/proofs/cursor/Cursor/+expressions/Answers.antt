@@ -5,7 +5,8 @@ use mathlib.Core.Path.{refl, ap, _∙_}
 use Prim.Native.Nat.{_-_}
 use Rattle.std.proofs.shelf.Results.{err-from-errBy}
 use Rattle.std.specs.declared.result.Result.the-variants.{Err}
-use Rattle.level.specs.Reading.{nothing, read-expr, read-exprs}
+use Rattle.level.specs.Reading.{read-expr, read-exprs}
+use Rattle.level.specs.Readers.{nothing}
 use Rattle.level.specs.Sound.{deepest}
 use Rattle.level.proofs.Turns.{broke, two}
 use Rattle.level.proofs.Arms.{exprs-more}

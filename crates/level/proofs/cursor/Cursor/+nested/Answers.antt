@@ -5,7 +5,8 @@ use mathlib.Core.Path.{refl, ap, _∙_}
 use Prim.Native.Nat.{_-_}
 use Rattle.std.specs.declared.result.Result.the-variants.{Err}
 use Rattle.std.proofs.shelf.Results.{err-from-errBy}
-use Rattle.level.specs.Reading.{nothing, read-expr}
+use Rattle.level.specs.Reading.{read-expr}
+use Rattle.level.specs.Readers.{nothing}
 use Rattle.level.specs.Syntax.{binary}
 use Rattle.level.proofs.Turns.{stops, done, broke, tail, two}
 use Rattle.level.proofs.Arms.{expr-past, expr-none, constant-short, constant-is, own-piece-is, own-short, own-over, own-is, other-short, other-over, other-is, binary-is, negation-is}

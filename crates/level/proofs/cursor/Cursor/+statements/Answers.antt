@@ -5,7 +5,8 @@ use mathlib.Core.Path.{refl, ap, _∙_}
 use Prim.Native.Nat.{_-_}
 use Rattle.std.proofs.shelf.Results.{err-from-errBy}
 use Rattle.std.specs.declared.result.Result.the-variants.{Err}
-use Rattle.level.specs.Reading.{nothing, read-stmt, read-effect}
+use Rattle.level.specs.Reading.{read-stmt, read-effect}
+use Rattle.level.specs.Readers.{nothing}
 use Rattle.level.specs.Tables.{listed}
 use Rattle.level.proofs.Turns.{stops, done, broke, two}
 use Rattle.level.proofs.Arms.{effect-past, effect-none, effect-ends, effect-more}

@@ -4,7 +4,8 @@ use lib.ListN.{drop}
 use mathlib.Core.Path.{refl, ap, _∙_}
 use Rattle.std.proofs.shelf.Results.{err-from-errBy}
 use Rattle.std.specs.declared.result.Result.the-variants.{Err}
-use Rattle.level.specs.Reading.{nothing, at, read-expr, read-exprs}
+use Rattle.level.specs.Reading.{at, read-expr, read-exprs}
+use Rattle.level.specs.Readers.{nothing}
 use Rattle.level.specs.Sound.{deepest}
 use Rattle.level.specs.Syntax.{send}
 use Rattle.level.specs.Tables.{listed}
