@@ -4,7 +4,7 @@ use mathlib.Core.List.{List, [], _∷_, _++_}
 use mathlib.Core.Path.{_≡_, refl, sym, ap, subst, _∙_}
 use Prim.Native.Nat.{ℕ, zero, suc, _+_, _-_, _≤_, _<_}
 use native.Mathlib.Omega.{arith}
-use borrow.Author.Tests.{leb-true, lt-ltb, le-ltb, ltb-true, eq-eqb, ne-eqb}
+use borrow.Author.Tests.{leb-true, le-leb, lt-ltb, le-ltb, ltb-true, eq-eqb, ne-eqb}
 use lib.Dec.{leb, ltb, eqb}
 use lib.ListN.{length, length-append}
 use Rattle.std.proofs.shelf.Ways.{tells}
@@ -32,6 +32,17 @@ turn-got {A} k most n bs X x l e = by (leb k (length bs)) (ltb n most) (leb-true
     by true true p q e = (p refl, q refl, e)
     by true false p q e = absurd (let z : _≡_ {A = ℕ} 0 1 = cc in omega arith)
     by false u p q e = absurd (let z : _≡_ {A = ℕ} 0 1 = cc in omega arith)
+
+pub turn-in : {A : Type 0} (k most n : ℕ) (bs : List ℕ) (X : Read A) → k ≤ length bs → n < most → turn k most n bs X ≡ X
+turn-in k most n bs X h u = rw (le-leb k (length bs) h, lt-ltb n most u)
+
+pub turn-then : {A B : Type 0} (k most n : ℕ) (bs : List ℕ) (X : Read A) (K : A → List ℕ → Read B) → turn k most n bs (then X K) ≡ then (turn k most n bs X) K
+turn-then k most n bs X K = by (leb k (length bs)) (ltb n most)
+  where
+    by : (t u : Bool) → when t (when u (then X K) (fault (Operand TooMany) bs)) (fault Truncated []) ≡ then (when t (when u X (fault (Operand TooMany) bs)) (fault Truncated [])) K
+    by true true = refl
+    by true false = refl
+    by false u = refl
 
 module _ {A : Type 0} (c k most : ℕ) (item : List A → List ℕ → Read A) where
   -- where another byte follows, the items are done

@@ -14,3 +14,4 @@ mod Limits
 mod Heads
 mod Transitions
 mod Growing
+mod OneKind

@@ -137,6 +137,10 @@ module _ (kinds : List Kind) where
     many-read (λ _. SoundPiece kinds) (λ l. eqb (at l 0) 0x05 ≡ false) piece 0x04 2 (λ _. read-piece kinds) (λ x m. refl) (λ x m. refl) (λ x m. omega arith) (λ xs x m p f. piece-read x m p f)
       most ps l h (along-each (SoundPiece kinds) [] ps e) a b
 
+-- a kind that fits beside so many transitions of others
+abbrev pub FittingKind : List ℕ → ℕ → Kind → Type 0
+FittingKind signals used k = SoundKind signals k × (length (k .transitions) ≤ most-transitions - used)
+
 -- kinds, in a level whose signals have at most two parameters
 module _ (signals : List ℕ) (few : Each (λ n. n ≤ 2) signals) where
   most-two : (ss : List ℕ) (k : ℕ) → Each (λ n. n ≤ 2) ss → getD ss k 0 ≤ 2
@@ -178,12 +182,10 @@ module _ (signals : List ℕ) (few : Each (λ n. n ≤ 2) signals) where
   count-push [] k = omega arith
   count-push (x ∷ ks) k = let h = count-push ks k in omega arith
 
-  pub kind-reads : (used : ℕ) (bs : List ℕ) → Bytes bs → 3 ≤ length bs → at bs 0 ≡ 0x02
-    → Reads (λ k. SoundKind signals k × (length (k .transitions) ≤ most-transitions - used)) kind bs (read-kind signals used bs)
+  pub kind-reads : (used : ℕ) (bs : List ℕ) → Bytes bs → 3 ≤ length bs → at bs 0 ≡ 0x02 → Reads (FittingKind signals used) kind bs (read-kind signals used bs)
   kind-reads used bs y h b =
-    let S : Kind → Type 0 = λ k. SoundKind signals k × (length (k .transitions) ≤ most-transitions - used) in
-    reads-operand S kind bs 1 0 9 bs _ (λ z u. reads-operand S kind bs 2 1 17 bs _ (λ z′ u′.
-    reads-then _ _ S kind (drop 3 bs) bs (read-transitions signals (at bs 1) (at bs 2) (most-transitions - used) (drop 3 bs)) _ (bytes-drop 3 bs y)
+    reads-operand (FittingKind signals used) kind bs 1 0 9 bs _ (λ z u. reads-operand (FittingKind signals used) kind bs 2 1 17 bs _ (λ z′ u′.
+    reads-then _ _ (FittingKind signals used) kind (drop 3 bs) bs (read-transitions signals (at bs 1) (at bs 2) (most-transitions - used) (drop 3 bs)) _ (bytes-drop 3 bs y)
       (transitions-reads (at bs 1) (at bs 2) (most-transitions - used) (drop 3 bs) (bytes-drop 3 bs y)) (λ ts l w q v.
       (front 3 bs h ∙ rw (b, q), (record { numbers = omega arith; some = z′; states = omega arith; transitions = v .1 }, v .0)))))
 
@@ -192,7 +194,7 @@ module _ (signals : List ℕ) (few : Each (λ n. n ≤ 2) signals) where
     reads-weaker _ _ kind (λ k v. (let j = count-push xs k in let n = v .1 in let g = i .0 in omega arith, each-push (SoundKind signals) xs k (i .1) (v .0))) bs _ (kind-reads (count xs) bs y h b)) most bs y (omega arith, tt)
 
   abbrev Fits : List Kind → Kind → Type 0
-  Fits before k = SoundKind signals k × (length (k .transitions) ≤ most-transitions - count before)
+  Fits before k = FittingKind signals (count before) k
 
   kind-read : (before : List Kind) (k : Kind) (l : List ℕ) → Fits before k → eqb (at l 0) 0x03 ≡ false → read-kind signals (count before) (kind k ++ l) ≡ got k l
   kind-read before k l v b =

@@ -23,6 +23,9 @@ abbrev pub Named : {F : Type 0} → (F → ℕ) → ℕ → Option F → Type 0
 Named lead b None = Unit
 Named lead b (Some f) = lead f ≡ b
 
+pub spelled : {A : Type 0} (S : A → Type 0) (s : A → List ℕ) (bs : List ℕ) (r : Read A) → Reads S s bs r → (a : A) (l : List ℕ) → r ≡ got a l → bs ≡ s a ++ l
+spelled S s bs r h a l e = subst (Reads S s bs) e h .0
+
 pub reads-weaker : {A : Type 0} (S S′ : A → Type 0) (s : A → List ℕ) → ((a : A) → S a → S′ a) → (bs : List ℕ) (r : Read A) → Reads S s bs r → Reads S′ s bs r
 reads-weaker S S′ s f bs (got a l) h = (h .0, f a (h .1))
 reads-weaker S S′ s f bs (bad x) h = tt

@@ -30,7 +30,7 @@ use Rattle.level.proofs.Steps.{Reads}
 use Rattle.level.proofs.Turns.{done, went, broke, goes-on}
 
 -- checks before what is read first
-operand-then : {A B : Type 0} (k least limit : ℕ) (bs : List ℕ) (X : Read A) (K : A → List ℕ → Read B) → operand k least limit bs (then X K) ≡ then (operand k least limit bs X) K
+pub operand-then : {A B : Type 0} (k least limit : ℕ) (bs : List ℕ) (X : Read A) (K : A → List ℕ → Read B) → operand k least limit bs (then X K) ≡ then (operand k least limit bs X) K
 operand-then k least limit bs X K = by (leb least (at bs k) && ltb (at bs k) limit)
   where
     by : (t : Bool) → when t (then X K) (fault (Operand OutOfRange) bs) ≡ then (when t X (fault (Operand OutOfRange) bs)) K
@@ -58,25 +58,25 @@ module _ (signals : List ℕ) (n : ℕ) where
     ∙ (ap (λ X. operand 1 0 m bs X) (operand-then 2 0 m bs (operand 3 0 (length signals + 1) bs (receivers-at signals n m bs c)) code)
     ∙ operand-then 1 0 m bs (operand 2 0 m bs (operand 3 0 (length signals + 1) bs (receivers-at signals n m bs c))) code))
 
--- the operands take six bytes
-abbrev Six : List ℕ → Read Head → Type 0
-Six bs (got h l) = l ≡ drop 6 bs
-Six bs (bad f) = Unit
+-- operands take so many bytes
+abbrev pub Drops : {A : Type 0} → ℕ → List ℕ → Read A → Type 0
+Drops n bs (got x l) = l ≡ drop n bs
+Drops n bs (bad f) = Unit
 
-six-operand : (bs : List ℕ) (k least limit : ℕ) (X : Read Head) → Six bs X → Six bs (operand k least limit bs X)
-six-operand bs k least limit X h = by (leb least (at bs k) && ltb (at bs k) limit)
+pub drops-operand : {A : Type 0} (n : ℕ) (bs : List ℕ) (k least limit : ℕ) (X : Read A) → Drops n bs X → Drops n bs (operand k least limit bs X)
+drops-operand n bs k least limit X h = by (leb least (at bs k) && ltb (at bs k) limit)
   where
-    by : (t : Bool) → Six bs (when t X (fault (Operand OutOfRange) bs))
+    by : (t : Bool) → Drops n bs (when t X (fault (Operand OutOfRange) bs))
     by true = h
     by false = tt
 
-six-receiver : (bs : List ℕ) (n : ℕ) (t : Bool) (k : ℕ) (X : Read Head) → Six bs X → Six bs (receiver n t k bs X)
-six-receiver bs n true k X h = six-operand bs k 0 n X h
-six-receiver bs n false k X h = six-operand bs k 255 256 X h
+drops-receiver : {A : Type 0} (m : ℕ) (bs : List ℕ) (n : ℕ) (t : Bool) (k : ℕ) (X : Read A) → Drops m bs X → Drops m bs (receiver n t k bs X)
+drops-receiver m bs n true k X h = drops-operand m bs k 0 n X h
+drops-receiver m bs n false k X h = drops-operand m bs k 255 256 X h
 
-head-six : (signals : List ℕ) (n m : ℕ) (bs : List ℕ) → Six bs (read-head signals n m bs)
-head-six signals n m bs = six-operand bs 1 0 m _ (six-operand bs 2 0 m _ (six-operand bs 3 0 (length signals + 1) _
-  (six-receiver bs n (ltb 0 (parameters signals (at bs 3))) 4 _ (six-receiver bs n (ltb 1 (parameters signals (at bs 3))) 5 _ refl))))
+head-six : (signals : List ℕ) (n m : ℕ) (bs : List ℕ) → Drops 6 bs (read-head signals n m bs)
+head-six signals n m bs = drops-operand 6 bs 1 0 m _ (drops-operand 6 bs 2 0 m _ (drops-operand 6 bs 3 0 (length signals + 1) _
+  (drops-receiver 6 bs n (ltb 0 (parameters signals (at bs 3))) 4 _ (drops-receiver 6 bs n (ltb 1 (parameters signals (at bs 3))) 5 _ refl))))
 
 abbrev entered : ℕ → HeadEntry → ℕ → ℕ → TransitionEntry
 entered k h i j = record { kind = k; source = h .source; target = h .target; signal = h .signal; first = h .first; second = h .second; guard = i; effect = j }
@@ -116,7 +116,7 @@ module _ (signals : List ℕ) (n m total number N : ℕ) (bs l0 : List ℕ) (o :
 
     -- the guard stands after six bytes
     guard-at : l1 ≡ drop 6 bs
-    guard-at = subst (Six l0) (head-is .3) (head-six signals n m l0) ∙ ap (drop 6) (sym (there .2))
+    guard-at = subst (Drops 6 l0) (head-is .3) (head-six signals n m l0) ∙ ap (drop 6) (sym (there .2))
 
     module _ (l2 : List ℕ) (x : Gives nothing (read-expr deepest n l1) (Ok tt) l2) where
       guard-is : (e : Expr) × (W ≡ effects e l2) × (tt ≡ nothing e) × (read-expr deepest n l1 ≡ got e l2)

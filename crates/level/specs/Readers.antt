@@ -8,6 +8,7 @@ use lib.ListN.{length, drop}
 use Rattle.std.specs.declared.result.Result.{Result}
 use Rattle.std.specs.declared.result.Result.the-variants.{Ok, Err}
 use Rattle.level.specs.declared.entry.Head.{Head as HeadEntry}
+use Rattle.level.specs.declared.entry.KindEntry.{KindEntry}
 use Rattle.level.specs.declared.fault.OperandFault.the-variants.{TooMany}
 use Rattle.level.specs.declared.fault.Reason.{Reason}
 use Rattle.level.specs.declared.fault.Reason.the-variants.{Operand}
@@ -64,3 +65,7 @@ module _ (signals : List ℕ) (n m : ℕ) (bs : List ℕ) where
 
 abbrev pub head-entry : Head → HeadEntry
 head-entry h = record { source = h .source; target = h .target; signal = h .signal; first = nth (h .receives) 0; second = nth (h .receives) 1 }
+
+-- the operands of a kind
+abbrev pub read-shape : List ℕ → Read KindEntry
+read-shape bs = operand 1 0 9 bs (operand 2 1 17 bs (got (record { numbers = at bs 1; states = at bs 2 }) (drop 3 bs)))

@@ -72,7 +72,8 @@ impl<'a> Cursor<'a> {
 
     // All transitions of kind `number`, after those in the table.
     pub fn transitions(&mut self, total: usize, number: u8, shape: KindEntry, signals: &Table<u8, 32>, transitions: &mut Table<TransitionEntry, 128>) -> Result<(), Reason>
-        requires { ⌜ length (now (now self .rest)) ≤ total ⌝ ∗ ⌜ Each (λ n. n ≤ 2) (listed (now signals)) ⌝ }
+        requires short { ⌜ length (now (now self .rest)) ≤ total ⌝ }
+        requires few { ⌜ Each (λ n. n ≤ 2) (listed (now signals)) ⌝ }
         ensures read { λ r. ⌜ Gives nothing (read-transitions (listed (now (signals .entry))) (shape .numbers) (shape .states) (128 - length (listed (now (transitions .entry)))) (now (now (self .entry) .rest))) r (now (now (self .exit) .rest)) ⌝ }
         ensures table { λ _. ⌜ Holds (read-transitions (listed (now (signals .entry))) (shape .numbers) (shape .states) (128 - length (listed (now (transitions .entry)))) (now (now (self .entry) .rest))) (λ ts. listed (now (transitions .exit)) ≡ listed (now (transitions .entry)) ++ map transition-entry (in-kind number (shape .numbers) (total - length (now (now (self .entry) .rest))) ts)) ⌝ }
     {
