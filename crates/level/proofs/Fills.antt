@@ -33,6 +33,13 @@ turn-got {A} k most n bs X x l e = by (leb k (length bs)) (ltb n most) (leb-true
     by true false p q e = absurd (let z : _≡_ {A = ℕ} 0 1 = cc in omega arith)
     by false u p q e = absurd (let z : _≡_ {A = ℕ} 0 1 = cc in omega arith)
 
+pub room-got : {A : Type 0} (k : ℕ) (bs : List ℕ) (X : Read A) (x : A) (l : List ℕ) → room k bs X ≡ got x l → (k ≤ length bs) × (X ≡ got x l)
+room-got {A} k bs X x l e = by (leb k (length bs)) (leb-true k (length bs)) e
+  where
+    by : (t : Bool) → (t ≡ true → k ≤ length bs) → when t X (fault Truncated []) ≡ got x l → (k ≤ length bs) × (X ≡ got x l)
+    by true p e = (p refl, e)
+    by false p e = absurd (let z : _≡_ {A = ℕ} 0 1 = cc in omega arith)
+
 pub turn-in : {A : Type 0} (k most n : ℕ) (bs : List ℕ) (X : Read A) → k ≤ length bs → n < most → turn k most n bs X ≡ X
 turn-in k most n bs X h u = rw (le-leb k (length bs) h, lt-ltb n most u)
 

@@ -15,3 +15,8 @@ mod Heads
 mod Transitions
 mod Growing
 mod OneKind
+mod Starting
+mod OnePiece
+mod Indexing
+mod Loading
+mod Held

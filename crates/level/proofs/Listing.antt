@@ -6,7 +6,9 @@ use native.Mathlib.Omega.{arith}
 use lib.ListN.{length, getD, take}
 use Rattle.std.proofs.shelf.Lists.{getD-past}
 use Rattle.std.specs.declared.option.Option.the-variants.{Some, None}
-use Rattle.level.specs.Sound.{parameters}
+use Rattle.level.specs.declared.entry.KindEntry.{KindEntry}
+use Rattle.level.specs.Readers.{entry-counts}
+use Rattle.level.specs.Sound.{Each, parameters}
 use Rattle.level.specs.Tables.{nth}
 
 pub nth-front : {T : Type 0} (n : ℕ) (xs : List T) (i : ℕ) (d : T) → n ≤ length xs → i < n → nth (take n xs) i ≡ Some (getD xs i d)
@@ -43,3 +45,23 @@ parameters-none ss zero h e = absurd (omega arith)
 parameters-none ss (suc s) h e =
   let z : suc s - 1 ≡ s = omega arith in
   getD-past ss s 0 (nth-none ss s (rw z at e))
+
+-- how many numbers the pieces of a kind have, where the table has it
+pub counts-some : (es : List KindEntry) (k : ℕ) (e : KindEntry) → Some e ≡ nth es k → getD (entry-counts es) k 0 ≡ e .numbers
+counts-some [] k e h = absurd (let z : _≡_ {A = ℕ} 0 1 = cc in omega arith)
+counts-some (x ∷ es) zero e h = let q : e ≡ x = cc in rw q
+counts-some (x ∷ es) (suc k) e h = counts-some es k e h
+
+pub counts-none : (es : List KindEntry) (k : ℕ) → None ≡ nth es k → getD (entry-counts es) k 0 ≡ 0
+counts-none [] k h = refl
+counts-none (x ∷ es) zero h = absurd (let z : _≡_ {A = ℕ} 0 1 = cc in omega arith)
+counts-none (x ∷ es) (suc k) h = counts-none es k h
+
+pub counts-small : (es : List KindEntry) (k : ℕ) → Each (λ e. e .numbers ≤ 8) es → getD (entry-counts es) k 0 ≤ 8
+counts-small [] k h = omega arith
+counts-small (x ∷ es) zero h = h .0
+counts-small (x ∷ es) (suc k) h = counts-small es k (h .1)
+
+pub counts-table : (es : List KindEntry) → length (entry-counts es) ≡ length es
+counts-table [] = refl
+counts-table (x ∷ es) = ap suc (counts-table es)

@@ -11,7 +11,7 @@ use mir.Syntax.{w32}
 use mir.Val.{ofZ}
 use Rattle.level.specs.Syntax.{Transition, Kind, Start, Piece, Level}
 use Rattle.level.specs.Spelling.{all, expression, effect, signal, transition, kind, start, piece, receivers}
-use Rattle.level.specs.Sound.{Each, most-transitions, parameters, numbers-of, count, SoundTransition, SoundKind, SoundStart, SoundPiece}
+use Rattle.level.specs.Sound.{Each, most-transitions, parameters, counts, numbers-of, count, SoundTransition, SoundKind, SoundStart, SoundPiece}
 use Rattle.level.specs.Reading.{Read, got, at, many, read-transition, read-transitions, read-signal, read-kind, read-start, read-starts, read-piece}
 use Rattle.level.specs.Law.{Bytes}
 use Rattle.level.proofs.Fronts.{front, bytes-drop, word-number, fits-number, number-word, inside}
@@ -112,29 +112,40 @@ starts-read n most ss l h e b =
       most ss l h (along-each (SoundStart n) [] ss e) tt b
 
 -- pieces
+pub starts-short : (ss : List Start) → length ss ≤ length (all start ss)
+starts-short [] = omega arith
+starts-short (s ∷ ss) = let k = starts-short ss in omega arith
+
+pub counts-length : (ks : List Kind) → length (counts ks) ≡ length ks
+counts-length [] = refl
+counts-length (k ∷ ks) = ap suc (counts-length ks)
+
+-- a piece, where the kinds have so many numbers
+abbrev pub ShapedPiece : List ℕ → Piece → Type 0
+ShapedPiece cs p = (p .kind < length cs) × Each (SoundStart (getD cs (p .kind) 0)) (p .starts)
+
+pub shaped-reads : (cs bs : List ℕ) → Bytes bs → 2 ≤ length bs → at bs 0 ≡ 0x04 → Reads (ShapedPiece cs) piece bs (read-piece cs bs)
+shaped-reads cs bs y h b = reads-operand (ShapedPiece cs) piece bs 1 0 (length cs) bs _ (λ z u.
+    reads-then _ _ (ShapedPiece cs) piece (drop 2 bs) bs (read-starts (getD cs (at bs 1) 0) (length bs) (drop 2 bs)) _ (bytes-drop 2 bs y)
+      (starts-reads (getD cs (at bs 1) 0) (length bs) (drop 2 bs) (bytes-drop 2 bs y)) (λ ss l w q v. (front 2 bs h ∙ rw (b, q), (u, v .1))))
+
 module _ (kinds : List Kind) where
-  pub piece-reads : (bs : List ℕ) → Bytes bs → 2 ≤ length bs → at bs 0 ≡ 0x04 → Reads (SoundPiece kinds) piece bs (read-piece kinds bs)
-  piece-reads bs y h b = reads-operand (SoundPiece kinds) piece bs 1 0 (length kinds) bs _ (λ z u.
-    reads-then _ _ (SoundPiece kinds) piece (drop 2 bs) bs (read-starts (numbers-of kinds (at bs 1)) (length bs) (drop 2 bs)) _ (bytes-drop 2 bs y)
-      (starts-reads (numbers-of kinds (at bs 1)) (length bs) (drop 2 bs) (bytes-drop 2 bs y)) (λ ss l w q v. (front 2 bs h ∙ rw (b, q), record { kind = u; starts = v .1 })))
+  piece-reads : (bs : List ℕ) → Bytes bs → 2 ≤ length bs → at bs 0 ≡ 0x04 → Reads (SoundPiece kinds) piece bs (read-piece (counts kinds) bs)
+  piece-reads bs y h b = reads-weaker _ _ piece (λ p v. let k = v .0 in record { kind = rw counts-length at k; starts = v .1 }) bs _ (shaped-reads (counts kinds) bs y h b)
 
-  pub pieces-reads : (most : ℕ) (bs : List ℕ) → Bytes bs → Reads (λ xs. (length xs ≤ most) × Each (SoundPiece kinds) xs) (all piece) bs (many 0x04 2 (λ _. read-piece kinds) most [] bs)
-  pieces-reads most bs y = each-reads (SoundPiece kinds) piece 0x04 2 (read-piece kinds) piece-reads most bs y
+  pub pieces-reads : (most : ℕ) (bs : List ℕ) → Bytes bs → Reads (λ xs. (length xs ≤ most) × Each (SoundPiece kinds) xs) (all piece) bs (many 0x04 2 (λ _. read-piece (counts kinds)) most [] bs)
+  pieces-reads most bs y = each-reads (SoundPiece kinds) piece 0x04 2 (read-piece (counts kinds)) piece-reads most bs y
 
-  starts-short : (ss : List Start) → length ss ≤ length (all start ss)
-  starts-short [] = omega arith
-  starts-short (s ∷ ss) = let k = starts-short ss in omega arith
-
-  piece-read : (p : Piece) (l : List ℕ) → SoundPiece kinds p → eqb (at l 0) 0x05 ≡ false → read-piece kinds (piece p ++ l) ≡ got p l
+  piece-read : (p : Piece) (l : List ℕ) → SoundPiece kinds p → eqb (at l 0) 0x05 ≡ false → read-piece (counts kinds) (piece p ++ l) ≡ got p l
   piece-read p l v b =
     let h = starts-short (p .starts) in
     let j = length-append (all start (p .starts)) l in
-    rw (inside 0 (p .kind) (length kinds) (omega arith) (v .kind), starts-read (numbers-of kinds (p .kind)) (length (piece p ++ l)) (p .starts) l (omega arith) (v .starts) b)
+    rw (inside 0 (p .kind) (length (counts kinds)) (omega arith) (rw counts-length (v .kind)), starts-read (numbers-of kinds (p .kind)) (length (piece p ++ l)) (p .starts) l (omega arith) (v .starts) b)
 
   pub pieces-read : (most : ℕ) (ps : List Piece) (l : List ℕ) → length ps ≤ most → Each (SoundPiece kinds) ps → eqb (at l 0) 0x05 ≡ false → eqb (at l 0) 0x04 ≡ false
-    → many 0x04 2 (λ _. read-piece kinds) most [] (all piece ps ++ l) ≡ got ps l
+    → many 0x04 2 (λ _. read-piece (counts kinds)) most [] (all piece ps ++ l) ≡ got ps l
   pieces-read most ps l h e a b =
-    many-read (λ _. SoundPiece kinds) (λ l. eqb (at l 0) 0x05 ≡ false) piece 0x04 2 (λ _. read-piece kinds) (λ x m. refl) (λ x m. refl) (λ x m. omega arith) (λ xs x m p f. piece-read x m p f)
+    many-read (λ _. SoundPiece kinds) (λ l. eqb (at l 0) 0x05 ≡ false) piece 0x04 2 (λ _. read-piece (counts kinds)) (λ x m. refl) (λ x m. refl) (λ x m. omega arith) (λ xs x m p f. piece-read x m p f)
       most ps l h (along-each (SoundPiece kinds) [] ps e) a b
 
 -- a kind that fits beside so many transitions of others

@@ -7,7 +7,7 @@ use Prim.Native.Nat.{ℕ, zero, suc, _+_, _-_, _≤_, _<_}
 use native.Mathlib.Omega.{arith}
 use borrow.Author.Tests.{leb-true, le-leb, ne-eqb}
 use lib.Dec.{leb, ltb, eqb}
-use lib.ListN.{length, drop, length-append, length-drop}
+use lib.ListN.{length, drop, getD, length-append, length-drop}
 use Rattle.std.proofs.shelf.Lists.{getD-append-left, drop-append-le}
 use Rattle.std.specs.declared.option.Option.{Option}
 use Rattle.std.specs.declared.option.Option.the-variants.{Some, None}
@@ -17,7 +17,7 @@ use Rattle.level.specs.declared.fault.Reason.{Reason}
 use Rattle.level.specs.declared.fault.Reason.the-variants.{Truncated, NotCommand, Operand, TooDeep, TooManyStatements}
 use Rattle.level.specs.declared.fault.LevelFault.{LevelFault}
 use Rattle.level.specs.Syntax.{Expr, other, binary, negation, Stmt, assign, store, send, Transition, Kind, Start, Piece, Level}
-use Rattle.level.specs.Sound.{deepest, most-statements, most-signals, most-kinds, most-transitions, most-pieces, most-bytes, parameters, numbers-of, count}
+use Rattle.level.specs.Sound.{deepest, most-statements, most-signals, most-kinds, most-transitions, most-pieces, most-bytes, parameters, counts, count}
 use Rattle.level.specs.Faults.{number, number-of-reason}
 use Rattle.level.specs.Reading.{Fault, Read, got, bad, fault, then, when, room, at, operand, known, Form, a-constant, an-own-piece, an-own, an-other, a-binary, a-negation, form, read-form, read-expr, read-exprs, Order, an-assign, a-store, a-send, order, read-order, read-stmt, end-or, read-effect, receiver, read-code, read-received, read-transition, many, read-signal, read-signals, read-transitions, read-kind, read-kinds, read-start, read-starts, read-piece, read-pieces, read-end, read-sections, read-level, verdict, read}
 use Rattle.level.proofs.Steps.{has1}
@@ -198,21 +198,21 @@ module _ (cs : List ℕ) where
       same true s f = f s
       same false s f = refl
 
-  module _ (kinds : List Kind) where
-    piece-firm : (bs : List ℕ) → 2 ≤ length bs → Firm (read-piece kinds bs) (read-piece kinds (bs ++ cs))
+  module _ (counts : List ℕ) where
+    piece-firm : (bs : List ℕ) → 2 ≤ length bs → Firm (read-piece counts bs) (read-piece counts (bs ++ cs))
     piece-firm bs h =
       let f = length-drop 2 bs in
       let g = length-append bs cs in
-      let e = more-limit (numbers-of kinds (at bs 1)) (length bs) (length (bs ++ cs)) [] (drop 2 bs) (omega arith) (omega arith) in
-      firm-operand 1 0 (length kinds) bs _ _ (omega arith) (rw (at-front bs cs 1 (omega arith), drop-append-le 2 bs cs h, e)
-        (firm-then (read-starts (numbers-of kinds (at bs 1)) (length (bs ++ cs)) (drop 2 bs)) _ _
-          (many-firm 0x05 6 refl (λ _. read-start (numbers-of kinds (at bs 1))) (λ _. start-firm (numbers-of kinds (at bs 1))) (length (bs ++ cs)) [] (drop 2 bs)) (λ ss. tt) (λ ss l. firm-got _ l)))
+      let e = more-limit (getD counts (at bs 1) 0) (length bs) (length (bs ++ cs)) [] (drop 2 bs) (omega arith) (omega arith) in
+      firm-operand 1 0 (length counts) bs _ _ (omega arith) (rw (at-front bs cs 1 (omega arith), drop-append-le 2 bs cs h, e)
+        (firm-then (read-starts (getD counts (at bs 1) 0) (length (bs ++ cs)) (drop 2 bs)) _ _
+          (many-firm 0x05 6 refl (λ _. read-start (getD counts (at bs 1) 0)) (λ _. start-firm (getD counts (at bs 1) 0)) (length (bs ++ cs)) [] (drop 2 bs)) (λ ss. tt) (λ ss l. firm-got _ l)))
 
-    pieces-used : Used (read-pieces kinds [])
-    pieces-used = many-used 0x04 2 refl (λ _. read-piece kinds) (λ _. piece-firm) most-pieces []
+    pieces-used : Used (read-pieces counts [])
+    pieces-used = many-used 0x04 2 refl (λ _. read-piece counts) (λ _. piece-firm) most-pieces []
 
-    pieces-firm : (bs : List ℕ) → Firm (read-pieces kinds bs) (read-pieces kinds (bs ++ cs))
-    pieces-firm bs = many-firm 0x04 2 refl (λ _. read-piece kinds) (λ _. piece-firm) most-pieces [] bs
+    pieces-firm : (bs : List ℕ) → Firm (read-pieces counts bs) (read-pieces counts (bs ++ cs))
+    pieces-firm bs = many-firm 0x04 2 refl (λ _. read-piece counts) (λ _. piece-firm) most-pieces [] bs
 
   last-firm : (bs : List ℕ) → Firm (read-end bs) (read-end (bs ++ cs))
   last-firm [] = inl refl
@@ -231,9 +231,9 @@ module _ (cs : List ℕ) where
 
   sections-firm : (bs : List ℕ) → Firm (read-sections bs) (read-sections (bs ++ cs))
   sections-firm bs = firm-then (read-signals bs) _ _ (signals-firm bs)
-    (λ ss. used-then (read-kinds ss []) _ (kinds-used ss) (λ ks. used-then (read-pieces ks []) _ (pieces-used ks) (λ ps. refl)))
-    (λ ss l. firm-then (read-kinds ss l) _ _ (kinds-firm ss l) (λ ks. used-then (read-pieces ks []) _ (pieces-used ks) (λ ps. refl))
-      (λ ks m. firm-then (read-pieces ks m) _ _ (pieces-firm ks m) (λ ps. refl)
+    (λ ss. used-then (read-kinds ss []) _ (kinds-used ss) (λ ks. used-then (read-pieces (counts ks) []) _ (pieces-used (counts ks)) (λ ps. refl)))
+    (λ ss l. firm-then (read-kinds ss l) _ _ (kinds-firm ss l) (λ ks. used-then (read-pieces (counts ks) []) _ (pieces-used (counts ks)) (λ ps. refl))
+      (λ ks m. firm-then (read-pieces (counts ks) m) _ _ (pieces-firm (counts ks) m) (λ ps. refl)
         (λ ps r. firm-then (read-end r) _ _ (last-firm r) (λ _. tt) (λ _ e. firm-got _ e))))
 
   settle : (n : ℕ) (x y : Read Level) (f : LevelFault) → Firm x y → verdict n x ≡ Err f → (number f ≡ 11 → ⊥) → verdict (n + length cs) y ≡ Err f

@@ -10,7 +10,7 @@ use lib.ListN.{length, drop}
 use Rattle.std.specs.declared.result.Result.the-variants.{Ok, Err}
 use Rattle.level.specs.Syntax.{Kind, Piece, Level}
 use Rattle.level.specs.Spelling.{all, signal, kind, piece, level}
-use Rattle.level.specs.Sound.{Each, Sound, SoundPiece, most-signals, most-kinds, most-pieces, most-bytes}
+use Rattle.level.specs.Sound.{Each, Sound, SoundPiece, most-signals, most-kinds, most-pieces, most-bytes, counts}
 use Rattle.level.specs.Reading.{Read, got, bad, then, when, at, read-signals, read-kinds, read-pieces, read-end, read-sections, read-level, verdict, read}
 use Rattle.level.specs.Law.{Bytes}
 use Rattle.level.proofs.Fronts.{front}
@@ -51,7 +51,7 @@ level-whole : (bs : List ℕ) → Bytes bs → Whole bs (read-level bs)
 level-whole bs y = whole-if bs (leb (length bs) most-bytes) _ _ (λ t.
     reads-on (λ xs. (length xs ≤ most-signals) × Each (λ n. n ≤ 2) xs) (all signal) (Whole bs) (λ f. tt) bs (read-signals bs) _ y (signals-reads most-signals bs y) (λ ss l w q v.
     reads-on (λ ks. (length ks ≤ most-kinds) × SoundKinds ss (v .1) ks) (all kind) (Whole bs) (λ f. tt) l (read-kinds ss l) _ w (kinds-reads ss (v .1) most-kinds l w) (λ ks m w′ q′ v′.
-    reads-on (λ ps. (length ps ≤ most-pieces) × Each (SoundPiece ks) ps) (all piece) (Whole bs) (λ f. tt) m (read-pieces ks m) _ w′ (pieces-reads ks most-pieces m w′) (λ ps r w″ q″ v″.
+    reads-on (λ ps. (length ps ≤ most-pieces) × Each (SoundPiece ks) ps) (all piece) (Whole bs) (λ f. tt) m (read-pieces (counts ks) m) _ w′ (pieces-reads ks most-pieces m w′) (λ ps r w″ q″ v″.
     end-on bs (record { signals = ss; kinds = ks; pieces = ps }) r (read-end r) (end-ends r) (λ e.
       let s : level (record { signals = ss; kinds = ks; pieces = ps }) ≡ bs = rw (← e, ← q″, ← q′, ← q) in
       (s, record { few-signals = v .0; signals = v .1; few-kinds = v′ .0; few-transitions = v′ .1 .0; kinds = v′ .1 .1; few-pieces = v″ .0; pieces = v″ .1; few-bytes = rw s (leb-true _ _ t) })))))) tt

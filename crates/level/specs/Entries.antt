@@ -2,12 +2,12 @@
 use mathlib.Core.List.{List, [], _∷_, map}
 use Prim.Native.Nat.{ℕ}
 use lib.IntN.{ℤ, pos}
-use lib.ListN.{replicate, set}
+use lib.ListN.{getD, replicate, set}
 use Rattle.level.specs.declared.entry.KindEntry.{KindEntry}
 use Rattle.level.specs.declared.entry.TransitionEntry.{TransitionEntry}
 use Rattle.level.specs.declared.entry.PieceEntry.{PieceEntry}
 use Rattle.level.specs.Syntax.{Transition, Kind, Start, Piece, Level}
-use Rattle.level.specs.Sound.{numbers-of}
+use Rattle.level.specs.Sound.{counts}
 use Rattle.level.specs.Places.{Placed, effect-place, placed}
 use Rattle.level.specs.Tables.{nth}
 
@@ -28,8 +28,9 @@ laid row (s ∷ ss) = laid (set row (s .number) (s .value)) ss
 abbrev pub starting : List Start → List ℤ
 starting ss = laid (replicate 8 (pos 0)) ss
 
-abbrev pub piece-entry : List Kind → Piece → PieceEntry
-piece-entry kinds p = record { kind = p .kind; numbers = numbers-of kinds (p .kind); starts = starting (p .starts) }
+-- where the kinds have so many numbers
+abbrev pub piece-entry : List ℕ → Piece → PieceEntry
+piece-entry counts p = record { kind = p .kind; numbers = getD counts (p .kind) 0; starts = starting (p .starts) }
 
 -- the four lists of an index
 pub record Index : Type 0 where
@@ -43,4 +44,4 @@ index-of L = record {
     signals = L .signals;
     kinds = map kind-entry (L .kinds);
     transitions = map transition-entry (placed L);
-    pieces = map (piece-entry (L .kinds)) (L .pieces) }
+    pieces = map (piece-entry (counts (L .kinds))) (L .pieces) }

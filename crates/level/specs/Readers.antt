@@ -1,6 +1,6 @@
 -- What the code's readers promise, each of the part of a level that it reads. The law of levels does not rest on this.
 use mathlib.Core.Bool.{Bool, true, false}
-use mathlib.Core.List.{List, [], _++_}
+use mathlib.Core.List.{List, [], _∷_, _++_}
 use mathlib.Core.Path.{_≡_}
 use Prim.Native.Nat.{ℕ, _+_}
 use lib.Dec.{ltb}
@@ -9,11 +9,13 @@ use Rattle.std.specs.declared.result.Result.{Result}
 use Rattle.std.specs.declared.result.Result.the-variants.{Ok, Err}
 use Rattle.level.specs.declared.entry.Head.{Head as HeadEntry}
 use Rattle.level.specs.declared.entry.KindEntry.{KindEntry}
+use Rattle.level.specs.declared.entry.Start.{Start as StartEntry}
 use Rattle.level.specs.declared.fault.OperandFault.the-variants.{TooMany}
 use Rattle.level.specs.declared.fault.Reason.{Reason}
 use Rattle.level.specs.declared.fault.Reason.the-variants.{Operand}
 use Rattle.level.specs.Reading.{Read, got, bad, fault, when, room, at, operand, receiver, received}
 use Rattle.level.specs.Sound.{parameters}
+use Rattle.level.specs.Syntax.{Start}
 use Rattle.level.specs.Tables.{nth}
 
 -- what a reader answers of what was read, and the bytes that remain before it
@@ -69,3 +71,11 @@ head-entry h = record { source = h .source; target = h .target; signal = h .sign
 -- the operands of a kind
 abbrev pub read-shape : List ℕ → Read KindEntry
 read-shape bs = operand 1 0 9 bs (operand 2 1 17 bs (got (record { numbers = at bs 1; states = at bs 2 }) (drop 3 bs)))
+
+abbrev pub start-entry : Start → StartEntry
+start-entry s = record { number = s .number; value = s .value }
+
+-- how many numbers the pieces of each kind have, as the table says
+abbrev pub entry-counts : List KindEntry → List ℕ
+entry-counts [] = []
+entry-counts (e ∷ es) = e .numbers ∷ entry-counts es

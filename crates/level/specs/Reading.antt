@@ -17,7 +17,7 @@ use Rattle.level.specs.declared.fault.Reason.{Reason}
 use Rattle.level.specs.declared.fault.Reason.the-variants.{TooLong, Truncated, NotCommand, Operand, TooDeep, TooManyStatements}
 use Rattle.level.specs.declared.fault.LevelFault.{LevelFault}
 use Rattle.level.specs.Syntax.{Operator, sum, difference, product, quotient, remainder, equal, less, and, or, Expr, constant, own-piece, own, other, binary, negation, Stmt, assign, store, send, Transition, Kind, Start, Piece, Level}
-use Rattle.level.specs.Sound.{deepest, most-statements, most-signals, most-kinds, most-transitions, most-pieces, most-bytes, parameters, numbers-of, count}
+use Rattle.level.specs.Sound.{deepest, most-statements, most-signals, most-kinds, most-transitions, most-pieces, most-bytes, parameters, counts, count}
 
 -- why reading stopped, and the bytes from the one that is named
 pub record Fault : Type 0 where
@@ -198,10 +198,11 @@ read-start n bs =
 abbrev pub read-starts : ℕ → ℕ → List ℕ → Read (List Start)
 read-starts n most bs = many 0x05 6 (λ before. read-start n) most [] bs
 
-module _ (kinds : List Kind) where
+-- where the kinds have so many numbers
+module _ (counts : List ℕ) where
   abbrev pub read-piece : List ℕ → Read Piece
-  read-piece bs = operand 1 0 (length kinds) bs (
-      then (read-starts (numbers-of kinds (at bs 1)) (length bs) (drop 2 bs)) (λ ss l. got (record { kind = at bs 1; starts = ss }) l))
+  read-piece bs = operand 1 0 (length counts) bs (
+      then (read-starts (getD counts (at bs 1) 0) (length bs) (drop 2 bs)) (λ ss l. got (record { kind = at bs 1; starts = ss }) l))
 
   abbrev pub read-pieces : List ℕ → Read (List Piece)
   read-pieces bs = many 0x04 2 (λ before. read-piece) most-pieces [] bs
@@ -215,7 +216,7 @@ read-end bs = room 1 bs (when (eqb (at bs 0) 0x06)
 -- the sections of a level, each up to the first byte that is not its command
 abbrev pub read-sections : List ℕ → Read Level
 read-sections bs =
-    then (read-signals bs) (λ signals l. then (read-kinds signals l) (λ kinds m. then (read-pieces kinds m) (λ pieces r.
+    then (read-signals bs) (λ signals l. then (read-kinds signals l) (λ kinds m. then (read-pieces (counts kinds) m) (λ pieces r.
       then (read-end r) (λ _ e. got (record { signals = signals; kinds = kinds; pieces = pieces }) e))))
 
 abbrev pub read-level : List ℕ → Read Level

@@ -39,11 +39,13 @@ abbrev pub parameters : List ℕ → ℕ → ℕ
 parameters signals zero = 0
 parameters signals (suc s) = getD signals s 0
 
--- how many numbers the pieces of a kind have
+-- how many numbers the pieces of each kind have
+abbrev pub counts : List Kind → List ℕ
+counts [] = []
+counts (k ∷ ks) = k .numbers ∷ counts ks
+
 abbrev pub numbers-of : List Kind → ℕ → ℕ
-numbers-of [] k = 0
-numbers-of (x ∷ xs) zero = x .numbers
-numbers-of (x ∷ xs) (suc k) = numbers-of xs k
+numbers-of kinds k = getD (counts kinds) k 0
 
 -- how many transitions there are in all
 abbrev pub count : List Kind → ℕ

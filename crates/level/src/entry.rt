@@ -39,6 +39,13 @@ pub struct Head {
     pub second: Option<u8>,
 }
 
+// A number of a piece and the value it starts with.
+#[derive(Clone, Copy)]
+pub struct Start {
+    pub number: u8,
+    pub value: i32,
+}
+
 impl KindEntry {
     pub(crate) const BLANK: KindEntry = KindEntry { numbers: 0, states: 0 };
 }

@@ -1,4 +1,6 @@
 // What stands where in a level.
+mod reading;
+
 use crate::entry::KindEntry;
 use crate::entry::PieceEntry;
 use crate::entry::TransitionEntry;

@@ -3,8 +3,6 @@ mod cursor;
 mod entry;
 mod fault;
 mod index;
-mod load;
-mod lookup;
 mod readers;
 mod store;
 mod table;

@@ -1,4 +1,7 @@
 // A level in memory.
+mod load;
+mod lookup;
+
 use crate::index::Index;
 ghost use Prim.Native.Nat.{ℕ, _<_};
 ghost use mathlib.Core.Path.{_≡_};
