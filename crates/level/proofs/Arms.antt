@@ -99,14 +99,14 @@ module _ (d n : ℕ) (bs : List ℕ) (deep : 0 < d) (some : 1 ≤ length bs) whe
   other-is b h u = expr-at d n bs deep some 19 b ∙ (room-in 2 bs _ h ∙ operand-in 1 0 8 bs _ (omega arith) u)
 
   pub binary-is : 20 ≤ at bs 0 → at bs 0 ≤ 28
-    → (op : Operator) × (read-expr d n bs ≡ then (read-expr (d - 1) n (drop 1 bs)) (λ e l. then (read-expr (d - 1) n l) (λ f m. got (binary op e f) m)))
+      → (op : Operator) × (read-expr d n bs ≡ then (read-expr (d - 1) n (drop 1 bs)) (λ e l. then (read-expr (d - 1) n l) (λ f m. got (binary op e f) m)))
   binary-is l u = let k = form-binary (at bs 0) l u in (k .0, expr-at d n bs deep some (at bs 0) refl ∙ rw (k .1))
 
   pub negation-is : at bs 0 ≡ 29 → read-expr d n bs ≡ then (read-expr (d - 1) n (drop 1 bs)) (λ e l. got (negation e) l)
   negation-is b = expr-at d n bs deep some 29 b
 
 pub exprs-more : (k n : ℕ) (bs : List ℕ) → 0 < k
-  → read-exprs k n bs ≡ then (read-expr deepest n bs) (λ e l. then (read-exprs (k - 1) n l) (λ es m. got (e ∷ es) m))
+    → read-exprs k n bs ≡ then (read-expr deepest n bs) (λ e l. then (read-exprs (k - 1) n l) (λ es m. got (e ∷ es) m))
 exprs-more zero n bs h = absurd (omega arith)
 exprs-more (suc k) n bs h = let z : suc k - 1 ≡ k = omega arith in rw z
 
@@ -121,7 +121,7 @@ module _ (signals : List ℕ) (n : ℕ) (bs : List ℕ) where
     send-over u = stmt-at some 34 b ∙ (room-in 2 bs _ two ∙ operand-over 1 1 (length signals + 1) bs _ (omega arith))
 
     pub send-is : (p : ℕ) → 1 ≤ at bs 1 → at bs 1 ≤ length signals → parameters signals (at bs 1) ≡ p
-      → read-stmt signals n bs ≡ then (read-expr deepest n (drop 2 bs)) (λ e l. then (read-exprs p n l) (λ es m. got (send (at bs 1) e es) m))
+        → read-stmt signals n bs ≡ then (read-expr deepest n (drop 2 bs)) (λ e l. then (read-exprs p n l) (λ es m. got (send (at bs 1) e es) m))
     send-is p l u e = stmt-at some 34 b ∙ (room-in 2 bs _ two ∙ (operand-in 1 1 (length signals + 1) bs _ l (omega arith) ∙ rw e))
 
   order-out : (b : ℕ) → (32 ≤ b → b ≤ 34 → ⊥) → order b ≡ None
@@ -152,6 +152,6 @@ module _ (signals : List ℕ) (n : ℕ) (bs : List ℕ) where
   effect-full (suc k) e o l u = absurd (omega arith)
 
   pub effect-more : (k : ℕ) → 0 < k → 1 ≤ length bs → 32 ≤ at bs 0 → at bs 0 ≤ 34
-    → read-effect signals n k bs ≡ then (read-stmt signals n bs) (λ c l. then (read-effect signals n (k - 1) l) (λ cs m. got (c ∷ cs) m))
+      → read-effect signals n k bs ≡ then (read-stmt signals n bs) (λ c l. then (read-effect signals n (k - 1) l) (λ cs m. got (c ∷ cs) m))
   effect-more zero h o l u = absurd (omega arith)
   effect-more (suc k) h o l u = let z : suc k - 1 ≡ k = omega arith in one-more o l u _ ∙ rw z

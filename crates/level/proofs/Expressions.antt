@@ -30,18 +30,18 @@ form-named = named lead forms (refl, (refl, (refl, (refl, (refl, (refl, (refl, (
 module _ (d n : ℕ) (more : List ℕ → Read Expr) (ih : (bs : List ℕ) → Bytes bs → Reads (SoundExpr d n) expression bs (more bs)) where
   form-reads : (bs : List ℕ) → Bytes bs → 1 ≤ length bs → (f : Form) → lead f ≡ at bs 0 → Reads (SoundExpr (suc d) n) expression bs (read-form n more bs f)
   form-reads bs y o a-constant b = reads-room _ _ 5 bs bs _ (λ h.
-    (front 5 bs h ∙ rw (← b) (ap (λ w. 0x10 ∷ (w ++ drop 5 bs)) (sym (word-number bs y 1 2 3 4))), fits-number bs y 1 2 3 4))
+      (front 5 bs h ∙ rw (← b) (ap (λ w. 0x10 ∷ (w ++ drop 5 bs)) (sym (word-number bs y 1 2 3 4))), fits-number bs y 1 2 3 4))
   form-reads bs y o an-own-piece b = (front 1 bs o ∙ rw (← b), tt)
   form-reads bs y o an-own b = reads-room _ _ 2 bs bs _ (λ h. reads-operand _ _ bs 1 0 n bs _ (λ z u. (front 2 bs h ∙ rw (← b), u)))
   form-reads bs y o an-other b = reads-room _ _ 2 bs bs _ (λ h. reads-operand _ _ bs 1 0 8 bs _ (λ z u.
-    reads-then _ _ _ _ (drop 2 bs) bs (more (drop 2 bs)) _ (bytes-drop 2 bs y) (ih (drop 2 bs) (bytes-drop 2 bs y)) (λ e m w q s.
+      reads-then _ _ _ _ (drop 2 bs) bs (more (drop 2 bs)) _ (bytes-drop 2 bs y) (ih (drop 2 bs) (bytes-drop 2 bs y)) (λ e m w q s.
       (front 2 bs h ∙ rw (← b, q), (u, s)))))
   form-reads bs y o (a-binary op) b =
-    reads-then _ _ _ _ (drop 1 bs) bs (more (drop 1 bs)) _ (bytes-drop 1 bs y) (ih (drop 1 bs) (bytes-drop 1 bs y)) (λ e m w q s.
-    reads-then _ _ _ _ m bs (more m) _ w (ih m w) (λ f l w′ q′ s′.
+      reads-then _ _ _ _ (drop 1 bs) bs (more (drop 1 bs)) _ (bytes-drop 1 bs y) (ih (drop 1 bs) (bytes-drop 1 bs y)) (λ e m w q s.
+      reads-then _ _ _ _ m bs (more m) _ w (ih m w) (λ f l w′ q′ s′.
       (front 1 bs o ∙ rw (← b, q, q′, append-assoc), (s, s′))))
   form-reads bs y o a-negation b =
-    reads-then _ _ _ _ (drop 1 bs) bs (more (drop 1 bs)) _ (bytes-drop 1 bs y) (ih (drop 1 bs) (bytes-drop 1 bs y)) (λ e m w q s. (front 1 bs o ∙ rw (← b, q), s))
+      reads-then _ _ _ _ (drop 1 bs) bs (more (drop 1 bs)) _ (bytes-drop 1 bs y) (ih (drop 1 bs) (bytes-drop 1 bs y)) (λ e m w q s. (front 1 bs o ∙ rw (← b, q), s))
 
 pub expr-reads : (d n : ℕ) (bs : List ℕ) → Bytes bs → Reads (SoundExpr d n) expression bs (read-expr d n bs)
 expr-reads zero n bs y = reads-room _ _ 1 bs bs _ (λ o. reads-known _ _ lead bs (at bs 0) (form (at bs 0)) _ (form-named (at bs 0)) (λ f e. tt))
@@ -74,7 +74,7 @@ exprs-reads zero n bs y = (refl, (refl, tt))
 exprs-reads (suc k) n bs y =
     reads-then _ _ _ _ bs bs (read-expr deepest n bs) _ y (expr-reads deepest n bs y) (λ e m w q s.
     reads-then _ _ _ _ m bs (read-exprs k n m) _ w (exprs-reads k n m w) (λ es l w′ q′ s′.
-      (q ∙ rw (q′, append-assoc), (ap suc (s′ .0), (s, s′ .1)))))
+    (q ∙ rw (q′, append-assoc), (ap suc (s′ .0), (s, s′ .1)))))
 
 pub exprs-read : (k n : ℕ) (es : List Expr) (l : List ℕ) → length es ≡ k → Each (SoundExpr deepest n) es → read-exprs k n (all expression es ++ l) ≡ got es l
 exprs-read zero n [] l e s = refl

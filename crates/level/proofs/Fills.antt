@@ -28,7 +28,7 @@ pub turn-got : {A : Type 0} (k most n : ℕ) (bs : List ℕ) (X : Read A) (x : A
 turn-got {A} k most n bs X x l e = by (leb k (length bs)) (ltb n most) (leb-true k (length bs)) (ltb-true n most) e
   where
     by : (t u : Bool) → (t ≡ true → k ≤ length bs) → (u ≡ true → n < most) → when t (when u X (fault (Operand TooMany) bs)) (fault Truncated []) ≡ got x l
-      → (k ≤ length bs) × (n < most) × (X ≡ got x l)
+        → (k ≤ length bs) × (n < most) × (X ≡ got x l)
     by true true p q e = (p refl, q refl, e)
     by true false p q e = absurd (let z : _≡_ {A = ℕ} 0 1 = cc in omega arith)
     by false u p q e = absurd (let z : _≡_ {A = ℕ} 0 1 = cc in omega arith)
@@ -77,11 +77,12 @@ module _ {A : Type 0} (c k most : ℕ) (item : List A → List ℕ → Read A) w
     where
       one-less : (left : ℕ) (x : A) → most - length xs ≡ suc left → left ≡ most - length (xs ++ (x ∷ []))
       one-less left x e = let j = length-append xs (x ∷ []) in omega arith
+
       by : (left : ℕ) → most - length xs ≡ left → many c k item left xs bs ≡ then (turn k most (length xs) bs (item xs bs)) (more xs)
       by zero e = rw (eq-eqb (at bs 0) c b, le-ltb (length xs) most (omega arith)) (room-then bs (fault (Operand TooMany) bs) (more xs))
       by (suc left) e = rw (eq-eqb (at bs 0) c b, lt-ltb (length xs) most (omega arith))
-        (room-then bs (item xs bs) (λ x l. many c k item left (xs ++ (x ∷ [])) l)
-         ∙ then-same (room k bs (item xs bs)) _ _ (λ x l. ap (λ n. many c k item n (xs ++ (x ∷ [])) l) (one-less left x e)))
+          (room-then bs (item xs bs) (λ x l. many c k item left (xs ++ (x ∷ [])) l)
+          ∙ then-same (room k bs (item xs bs)) _ _ (λ x l. ap (λ n. many c k item n (xs ++ (x ∷ [])) l) (one-less left x e)))
 
   -- The state of such a loop. P: what is known of the items so far; `whole`: what was to be read.
   pub record Filled (P : List A → Type 0) (whole : Read (List A)) (bs : List ℕ) : Type 0 where
@@ -103,17 +104,19 @@ module _ {A : Type 0} (c k most : ℕ) (item : List A → List ℕ → Read A) w
 
         -- Q: what is known after one item more
         pub again : (Q : List A → Type 0) (v : B) (l : List ℕ) → Gives f (turn k most (length (s .so-far)) bs (item (s .so-far) bs)) (Ok v) l
-          → ((x : A) → k ≤ length bs → length (s .so-far) < most → item (s .so-far) bs ≡ got x l → v ≡ f x → Q (s .so-far ++ (x ∷ []))) → Filled Q whole l
+            → ((x : A) → k ≤ length bs → length (s .so-far) < most → item (s .so-far) bs ≡ got x l → v ≡ f x → Q (s .so-far ++ (x ∷ []))) → Filled Q whole l
         again Q v l h p =
-          let w = went f (turn k most (length (s .so-far)) bs (item (s .so-far) bs)) v l h in
-          let t = turn-got k most (length (s .so-far)) bs (item (s .so-far) bs) (w .0) l (w .1) in
-          record { so-far = s .so-far ++ (w .0 ∷ []);
-            reads = s .reads ∙ (many-turn (s .so-far) bs b ∙ ap (λ R. then R (more (s .so-far))) (w .1));
-            known = p (w .0) (t .0) (t .1) (t .2) (w .2) }
+            let w = went f (turn k most (length (s .so-far)) bs (item (s .so-far) bs)) v l h in
+            let t = turn-got k most (length (s .so-far)) bs (item (s .so-far) bs) (w .0) l (w .1) in
+            record {
+              so-far = s .so-far ++ (w .0 ∷ []);
+              reads = s .reads ∙ (many-turn (s .so-far) bs b ∙ ap (λ R. then R (more (s .so-far))) (w .1));
+              known = p (w .0) (t .0) (t .1) (t .2) (w .2);
+            }
 
 -- the same limit and count under other names
 pub turn-at : {A B : Type 0} (f : A → B) (k most most′ n n′ : ℕ) (bs : List ℕ) (X : Read A) → most ≡ most′ → n ≡ n′ → (r : Result B Reason) (l : List ℕ)
-  → Gives f (turn k most n bs X) r l → Gives f (turn k most′ n′ bs X) r l
+    → Gives f (turn k most n bs X) r l → Gives f (turn k most′ n′ bs X) r l
 turn-at f k most most′ n n′ bs X e q r l g = subst (λ m. Gives f (turn k m n′ bs X) r l) e (subst (λ m. Gives f (turn k most m bs X) r l) q g)
 
 -- the same limit, less those of others that stand before
@@ -123,7 +126,7 @@ turn-less k most d n bs X = let e : ltb (d + n) most ≡ ltb n (most - d) = grin
 -- an item takes bytes
 pub shorter : {A : Type 0} (S : A → Type 0) (s : A → List ℕ) (bs : List ℕ) (x : A) (l : List ℕ) (R : Read A) → R ≡ got x l → Reads S s bs R → 1 ≤ length (s x) → length l < length bs
 shorter S s bs x l R e r h =
-  let q = subst (Reads S s bs) e r in
-  let a = length-append (s x) l in
-  let b = ap length (q .0) in
-  omega arith
+    let q = subst (Reads S s bs) e r in
+    let a = length-append (s x) l in
+    let b = ap length (q .0) in
+    omega arith

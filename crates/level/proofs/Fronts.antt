@@ -39,25 +39,25 @@ pub bytes-right : (xs ys : List ℕ) → Bytes (xs ++ ys) → Bytes ys
 bytes-right xs ys y j = subst (λ n. n < 256) (getD-append-add xs ys j 0) (y (length xs + j))
 
 digits : (a b c d n : ℕ) → b < 256 → c < 256 → d < 256 → n ≡ a * 16777216 + b * 65536 + c * 256 + d
-  → (n / 16777216 ≡ a) × (n / 65536 % 256 ≡ b) × (n / 256 % 256 ≡ c) × (n % 256 ≡ d)
+    → (n / 16777216 ≡ a) × (n / 65536 % 256 ≡ b) × (n / 256 % 256 ≡ c) × (n % 256 ≡ d)
 digits a b c d n i j k e = omega arith
 
 -- the number in four bytes of a list, from place `j` on
 module _ (bs : List ℕ) (y : Bytes bs) (j k l m : ℕ) where
   pub word-number : word (number (at bs j) (at bs k) (at bs l) (at bs m)) ≡ at bs j ∷ (at bs k ∷ (at bs l ∷ (at bs m ∷ [])))
   word-number =
-    let p = y j in let q = y k in let r = y l in let s = y m in
-    let e : ofZ w32 (number (at bs j) (at bs k) (at bs l) (at bs m)) ≡ at bs j * 16777216 + at bs k * 65536 + at bs l * 256 + at bs m = ofZ-toZ w32 _ (omega arith) in
-    let d = digits (at bs j) (at bs k) (at bs l) (at bs m) (ofZ w32 (number (at bs j) (at bs k) (at bs l) (at bs m))) q r s e in
-    cc (d .0, d .1, d .2, d .3)
+      let p = y j in let q = y k in let r = y l in let s = y m in
+      let e : ofZ w32 (number (at bs j) (at bs k) (at bs l) (at bs m)) ≡ at bs j * 16777216 + at bs k * 65536 + at bs l * 256 + at bs m = ofZ-toZ w32 _ (omega arith) in
+      let d = digits (at bs j) (at bs k) (at bs l) (at bs m) (ofZ w32 (number (at bs j) (at bs k) (at bs l) (at bs m))) q r s e in
+      cc (d .0, d .1, d .2, d .3)
 
   pub fits-number : SFits w32 (number (at bs j) (at bs k) (at bs l) (at bs m))
   fits-number = let p = y j in let q = y k in let r = y l in let s = y m in omega (arith, ints)
 
 pub number-word : (z : ℤ) → SFits w32 z → (n : ℕ) → n ≡ ofZ w32 z → number (n / 16777216) (n / 65536 % 256) (n / 256 % 256) (n % 256) ≡ z
 number-word z f n e =
-  let k : n / 16777216 * 16777216 + n / 65536 % 256 * 65536 + n / 256 % 256 * 256 + n % 256 ≡ n = omega arith in
-  ap (toZ w32) (k ∙ e) ∙ toZ-ofZ w32 z f
+    let k : n / 16777216 * 16777216 + n / 65536 % 256 * 65536 + n / 256 % 256 * 256 + n % 256 ≡ n = omega arith in
+    ap (toZ w32) (k ∙ e) ∙ toZ-ofZ w32 z f
 
 -- a value from `least` and below `limit`
 pub inside : (least v limit : ℕ) → least ≤ v → v < limit → (leb least v && ltb v limit) ≡ true

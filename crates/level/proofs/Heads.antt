@@ -74,15 +74,15 @@ seconds false false a b h = (refl, refl)
 
 -- the first three operands, and how many parameters the signal has
 module _ (signals : List ℕ) (n m : ℕ) (bs : List ℕ) (x y z p k : ℕ) (f : Checked bs 1 0 m (at bs 1) (Ok x)) (t : Checked bs 2 0 m (at bs 2) (Ok y))
-  (j : k ≡ length signals) (s′ : Checked bs 3 0 (k + 1) (at bs 3) (Ok z)) (c : p ≡ parameters signals z) where
+    (j : k ≡ length signals) (s′ : Checked bs 3 0 (k + 1) (at bs 3) (Ok z)) (c : p ≡ parameters signals z) where
   s : Checked bs 3 0 (length signals + 1) (at bs 3) (Ok z)
   s = rw j at s′
 
   so-far : read-head signals n m bs ≡ receivers-at signals n m bs p
   so-far =
-    let q = value bs 3 0 (length signals + 1) (at bs 3) z s in
-    let e : parameters signals (at bs 3) ≡ p = rw (← q) (sym c) in
-    passes bs 1 0 m _ x f _ ∙ (passes bs 2 0 m _ y t _ ∙ (passes bs 3 0 (length signals + 1) _ z s _ ∙ rw e))
+      let q = value bs 3 0 (length signals + 1) (at bs 3) z s in
+      let e : parameters signals (at bs 3) ≡ p = rw (← q) (sym c) in
+      passes bs 1 0 m _ x f _ ∙ (passes bs 2 0 m _ y t _ ∙ (passes bs 3 0 (length signals + 1) _ z s _ ∙ rw e))
 
   pub first-fails : (e : OperandFault) → Receives n bs 4 (ltb 0 p) (Err e) → read-head signals n m bs ≡ fault (Operand e) bs
   first-fails e h = so-far ∙ receiver-fails n bs 4 (ltb 0 p) e h _
@@ -91,12 +91,12 @@ module _ (signals : List ℕ) (n m : ℕ) (bs : List ℕ) (x y z p k : ℕ) (f :
   second-fails o e g h = so-far ∙ (receiver-passes n bs 4 (ltb 0 p) o g _ ∙ receiver-fails n bs 5 (ltb 1 p) e h _)
 
   pub head-passes : (o q : Option ℕ) → Receives n bs 4 (ltb 0 p) (Ok o) → Receives n bs 5 (ltb 1 p) (Ok q) → (l : List ℕ) → l ≡ drop 6 bs
-    → Gives head-entry (read-head signals n m bs) (Ok (record { source = x; target = y; signal = z; first = o; second = q })) l
+      → Gives head-entry (read-head signals n m bs) (Ok (record { source = x; target = y; signal = z; first = o; second = q })) l
   head-passes o q g h l e =
-    let two = seconds (ltb 0 p) (ltb 1 p) (at bs 4) (at bs 5) (λ u. let k : 1 < p = grind (arith, tells) in grind (arith, tells)) in
-    let a = value bs 1 0 m (at bs 1) x f in
-    let b = value bs 2 0 m (at bs 2) y t in
-    let d = value bs 3 0 (length signals + 1) (at bs 3) z s in
-    let i = receiver-value n bs 4 (ltb 0 p) o g ∙ sym (two .0) in
-    let r = receiver-value n bs 5 (ltb 1 p) q h ∙ sym (two .1) in
-    done head-entry _ (head-at signals n m bs p) (drop 6 bs) (so-far ∙ (receiver-passes n bs 4 (ltb 0 p) o g _ ∙ receiver-passes n bs 5 (ltb 1 p) q h _)) _ l (rw (a, b, d, i, r)) e
+      let two = seconds (ltb 0 p) (ltb 1 p) (at bs 4) (at bs 5) (λ u. let k : 1 < p = grind (arith, tells) in grind (arith, tells)) in
+      let a = value bs 1 0 m (at bs 1) x f in
+      let b = value bs 2 0 m (at bs 2) y t in
+      let d = value bs 3 0 (length signals + 1) (at bs 3) z s in
+      let i = receiver-value n bs 4 (ltb 0 p) o g ∙ sym (two .0) in
+      let r = receiver-value n bs 5 (ltb 1 p) q h ∙ sym (two .1) in
+      done head-entry _ (head-at signals n m bs p) (drop 6 bs) (so-far ∙ (receiver-passes n bs 4 (ltb 0 p) o g _ ∙ receiver-passes n bs 5 (ltb 1 p) q h _)) _ l (rw (a, b, d, i, r)) e

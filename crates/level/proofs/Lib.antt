@@ -19,4 +19,4 @@ mod Starting
 mod OnePiece
 mod Indexing
 mod Loading
-mod Held
+pub mod Held

@@ -36,15 +36,15 @@ nth-some (y ∷ xs) (suc i) x d h = let k = nth-some xs i x d h in (let j = k .0
 pub parameters-some : (ss : List ℕ) (s p : ℕ) → 1 ≤ s → Some p ≡ nth ss (s - 1) → (s ≤ length ss) × (parameters ss s ≡ p)
 parameters-some ss zero p h e = absurd (omega arith)
 parameters-some ss (suc s) p h e =
-  let z : suc s - 1 ≡ s = omega arith in
-  let k = nth-some ss s p 0 (rw z at e) in
-  (let j = k .0 in omega arith, k .1)
+    let z : suc s - 1 ≡ s = omega arith in
+    let k = nth-some ss s p 0 (rw z at e) in
+    (let j = k .0 in omega arith, k .1)
 
 pub parameters-none : (ss : List ℕ) (s : ℕ) → 1 ≤ s → None ≡ nth ss (s - 1) → parameters ss s ≡ 0
 parameters-none ss zero h e = absurd (omega arith)
 parameters-none ss (suc s) h e =
-  let z : suc s - 1 ≡ s = omega arith in
-  getD-past ss s 0 (nth-none ss s (rw z at e))
+    let z : suc s - 1 ≡ s = omega arith in
+    getD-past ss s 0 (nth-none ss s (rw z at e))
 
 -- how many numbers the pieces of a kind have, where the table has it
 pub counts-some : (es : List KindEntry) (k : ℕ) (e : KindEntry) → Some e ≡ nth es k → getD (entry-counts es) k 0 ≡ e .numbers

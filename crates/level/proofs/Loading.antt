@@ -27,9 +27,9 @@ level-law = record { faithful = faithful; complete = complete; stands = stands; 
 
 pub too-long : (bs : List ℕ) → 8192 < length bs → read bs ≡ Err (record { reason = TooLong; byte = 0 })
 too-long bs h =
-  let m = bytes-limit in
-  let z : length bs - length bs ≡ 0 = omega arith in
-  rw (lt-leb (length bs) most-bytes (omega arith), z)
+    let m = bytes-limit in
+    let z : length bs - length bs ≡ 0 = omega arith in
+    rw (lt-leb (length bs) most-bytes (omega arith), z)
 
 in-bounds : (bs : List ℕ) → length bs ≤ 8192 → read bs ≡ verdict (length bs) (read-sections bs)
 in-bounds bs h = let m = bytes-limit in rw (le-leb (length bs) most-bytes (omega arith))
@@ -49,8 +49,8 @@ pub record Loaded (bs : List ℕ) (x : Index) : Type 0 where
 
 pub found : (bs : List ℕ) → length bs ≤ 8192 → (l : List ℕ) → Gives nothing (read-sections bs) (Ok tt) l → (x : Index) → Holds (read-sections bs) (λ L. x ≡ index-of L) → Loaded bs x
 found bs h l g x i =
-  let w = went nothing (read-sections bs) tt l g in
-  record { level = w .0; reads = in-bounds bs h ∙ ap (verdict (length bs)) (w .1); indexed = subst (λ R. Holds R (λ L. x ≡ index-of L)) (w .1) i }
+    let w = went nothing (read-sections bs) tt l g in
+    record { level = w .0; reads = in-bounds bs h ∙ ap (verdict (length bs)) (w .1); indexed = subst (λ R. Holds R (λ L. x ≡ index-of L)) (w .1) i }
 
 module _ (bs : List ℕ) (x : Index) (s : Loaded bs x) where
   pub legible : accepted bs ≡ true

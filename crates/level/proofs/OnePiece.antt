@@ -33,9 +33,9 @@ module _ (cs : List ℕ) (n : ℕ) (bs l0 : List ℕ) (o : Gives nothing (opened
 
   there : (2 ≤ length bs) × (n < 32) × (bs ≡ l0)
   there =
-    let w = went nothing (opened 2 32 n bs) tt l0 o in
-    let t = turn-got 2 32 n bs (got tt bs) (w .0) l0 (w .1) in
-    (t .0, t .1, let e = t .2 in cc)
+      let w = went nothing (opened 2 32 n bs) tt l0 o in
+      let t = turn-got 2 32 n bs (got tt bs) (w .0) l0 (w .1) in
+      (t .0, t .1, let e = t .2 in cc)
 
   begun : W ≡ read-piece cs l0
   begun = turn-in 2 32 n bs (read-piece cs bs) (there .0) (there .1) ∙ ap (read-piece cs) (there .2)
@@ -55,9 +55,9 @@ module _ (cs : List ℕ) (n : ℕ) (bs l0 : List ℕ) (o : Gives nothing (opened
 
     kind-passed : W ≡ then (its (drop 2 l0)) (λ ss l. got (made-of ss) l)
     kind-passed =
-      let h : 2 ≤ length l0 = rw (there .2) at (there .0) in
-      let z : length (drop 2 l0) + 2 ≡ length l0 = let e = length-drop 2 l0 in omega arith in
-      begun ∙ (passes l0 1 0 (length cs) (at l0 1) k (rw j at c) _ ∙ rw (← kind-is, ← m, z))
+        let h : 2 ≤ length l0 = rw (there .2) at (there .0) in
+        let z : length (drop 2 l0) + 2 ≡ length l0 = let e = length-drop 2 l0 in omega arith in
+        begun ∙ (passes l0 1 0 (length cs) (at l0 1) k (rw j at c) _ ∙ rw (← kind-is, ← m, z))
 
     module _ (x : List ℕ) (p : x ≡ drop 2 l0) where
       pub starts-refused : (e : Reason) (l : List ℕ) → Gives starting (its x) (Err e) l → (s : Result PieceEntry Reason) → s ≡ Err e → Gives (piece-entry cs) W s l
@@ -65,8 +65,8 @@ module _ (cs : List ℕ) (n : ℕ) (bs l0 : List ℕ) (o : Gives nothing (opened
 
       pub piece-made : (row : List ℤ) (l : List ℕ) → Gives starting (its x) (Ok row) l → Gives (piece-entry cs) W (Ok (record { kind = k; numbers = numbers; starts = row })) l
       piece-made row l h =
-        let w = goes-on W its (λ ss l. got (made-of ss) l) x (drop 2 l0) kind-passed p starting row l h in
-        done (piece-entry cs) W (made-of (w .0)) l (w .1) _ l (same (getD cs k 0) row (starting (w .0)) m (w .2)) refl
+          let w = goes-on W its (λ ss l. got (made-of ss) l) x (drop 2 l0) kind-passed p starting row l h in
+          done (piece-entry cs) W (made-of (w .0)) l (w .1) _ l (same (getD cs k 0) row (starting (w .0)) m (w .2)) refl
         where
           same : (n : ℕ) (r s : List ℤ) → numbers ≡ n → r ≡ s → _≡_ {A = PieceEntry} (record { kind = k; numbers = numbers; starts = r }) (record { kind = k; numbers = n; starts = s })
           same n r s p q = rw (p, q)
@@ -101,14 +101,14 @@ module _ (cs bs₀ : List ℕ) (table : List PieceEntry) (bs : List ℕ) where
       module _ (v : PieceEntry) (l : List ℕ) (g : Gives (piece-entry cs) one (Ok v) l) where
         pub pieces-again : (after : List PieceEntry) → after ≡ table ++ (v ∷ []) → Filled 0x04 2 most-pieces item (Tabled after) whole l
         pieces-again after p = again 0x04 2 most-pieces item (Tabled table) whole bs s (piece-entry cs) b (Tabled after) v l (beside (Ok v) l g) (λ x h _ e q.
-          p ∙ rw (s .known, q) (sym (map-append (piece-entry cs) (s .so-far) (x ∷ []))))
+            p ∙ rw (s .known, q) (sym (map-append (piece-entry cs) (s .so-far) (x ∷ []))))
 
         pub pieces-less : Bytes bs → length l < length bs
         pieces-less y =
-          let w = went (piece-entry cs) one v l g in
-          let t = turn-got 2 32 (length table) bs (read-piece cs bs) (w .0) l (w .1) in
-          let e = ap length (spelled (ShapedPiece cs) piece bs _ (shaped-reads cs bs y (t .0) b) (w .0) l (t .2)) ∙ length-append (piece (w .0)) l in
-          omega arith
+            let w = went (piece-entry cs) one v l g in
+            let t = turn-got 2 32 (length table) bs (read-piece cs bs) (w .0) l (w .1) in
+            let e = ap length (spelled (ShapedPiece cs) piece bs _ (shaped-reads cs bs y (t .0) b) (w .0) l (t .2)) ∙ length-append (piece (w .0)) l in
+            omega arith
 
     pub pieces-done : (at bs 0 ≡ 0x04 → ⊥) → whole ≡ got (s .so-far) bs
     pieces-done h = ends 0x04 2 most-pieces item (Tabled table) whole bs s h

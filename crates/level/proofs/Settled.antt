@@ -82,13 +82,13 @@ module _ (cs : List ℕ) where
   module _ (n : ℕ) (more : List ℕ → Read Expr) (none : Used (more [])) (ih : (bs : List ℕ) → Firm (more bs) (more (bs ++ cs))) where
     form-firm : (bs : List ℕ) → 1 ≤ length bs → (f : Form) → Firm (read-form n more bs f) (read-form n more (bs ++ cs) f)
     form-firm bs o a-constant = firm-room 5 bs _ _ (λ h.
-      rw (at-front bs cs 1 (omega arith), at-front bs cs 2 (omega arith), at-front bs cs 3 (omega arith), at-front bs cs 4 (omega arith), drop-append-le 5 bs cs h) (firm-got _ (drop 5 bs)))
+        rw (at-front bs cs 1 (omega arith), at-front bs cs 2 (omega arith), at-front bs cs 3 (omega arith), at-front bs cs 4 (omega arith), drop-append-le 5 bs cs h) (firm-got _ (drop 5 bs)))
     form-firm bs o an-own-piece = rw (drop-append-le 1 bs cs o) (firm-got _ (drop 1 bs))
     form-firm bs o an-own = firm-room 2 bs _ _ (λ h. firm-operand 1 0 n bs _ _ (omega arith) (rw (at-front bs cs 1 (omega arith), drop-append-le 2 bs cs h) (firm-got _ (drop 2 bs))))
     form-firm bs o an-other = firm-room 2 bs _ _ (λ h. firm-operand 1 0 8 bs _ _ (omega arith) (rw (at-front bs cs 1 (omega arith), drop-append-le 2 bs cs h)
-      (firm-then (more (drop 2 bs)) _ _ (ih (drop 2 bs)) (λ a. tt) (λ e l. firm-got (other (at bs 1) e) l))))
+        (firm-then (more (drop 2 bs)) _ _ (ih (drop 2 bs)) (λ a. tt) (λ e l. firm-got (other (at bs 1) e) l))))
     form-firm bs o (a-binary op) = rw (drop-append-le 1 bs cs o) (firm-then (more (drop 1 bs)) _ _ (ih (drop 1 bs)) (λ e. used-then (more []) _ none (λ f. tt)) (λ e l.
-      firm-then (more l) _ _ (ih l) (λ f. tt) (λ f m. firm-got (binary op e f) m)))
+        firm-then (more l) _ _ (ih l) (λ f. tt) (λ f m. firm-got (binary op e f) m)))
     form-firm bs o a-negation = rw (drop-append-le 1 bs cs o) (firm-then (more (drop 1 bs)) _ _ (ih (drop 1 bs)) (λ a. tt) (λ e l. firm-got (negation e) l))
 
   expr-used : (d n : ℕ) → Used (read-expr d n [])
@@ -106,17 +106,17 @@ module _ (cs : List ℕ) where
   exprs-firm : (k n : ℕ) (bs : List ℕ) → Firm (read-exprs k n bs) (read-exprs k n (bs ++ cs))
   exprs-firm zero n bs = firm-got [] bs
   exprs-firm (suc k) n bs = firm-then (read-expr deepest n bs) _ _ (expr-firm deepest n bs) (λ e. used-then (read-exprs k n []) _ (exprs-used k n) (λ es. tt)) (λ e l.
-    firm-then (read-exprs k n l) _ _ (exprs-firm k n l) (λ es. tt) (λ es m. firm-got (e ∷ es) m))
+      firm-then (read-exprs k n l) _ _ (exprs-firm k n l) (λ es. tt) (λ es m. firm-got (e ∷ es) m))
 
   module _ (signals : List ℕ) (n : ℕ) where
     order-firm : (bs : List ℕ) (o : Order) → Firm (read-order signals n bs o) (read-order signals n (bs ++ cs) o)
     order-firm bs an-assign = firm-room 2 bs _ _ (λ h. firm-operand 1 0 n bs _ _ (omega arith) (rw (at-front bs cs 1 (omega arith), drop-append-le 2 bs cs h)
-      (firm-then (read-expr deepest n (drop 2 bs)) _ _ (expr-firm deepest n (drop 2 bs)) (λ e. tt) (λ e l. firm-got (assign (at bs 1) e) l))))
+        (firm-then (read-expr deepest n (drop 2 bs)) _ _ (expr-firm deepest n (drop 2 bs)) (λ e. tt) (λ e l. firm-got (assign (at bs 1) e) l))))
     order-firm bs a-store = firm-room 2 bs _ _ (λ h. firm-operand 1 0 8 bs _ _ (omega arith) (rw (at-front bs cs 1 (omega arith), drop-append-le 2 bs cs h)
-      (firm-then (read-expr deepest n (drop 2 bs)) _ _ (expr-firm deepest n (drop 2 bs)) (λ e. used-then (read-expr deepest n []) _ (expr-used deepest n) (λ f. tt)) (λ e l.
+        (firm-then (read-expr deepest n (drop 2 bs)) _ _ (expr-firm deepest n (drop 2 bs)) (λ e. used-then (read-expr deepest n []) _ (expr-used deepest n) (λ f. tt)) (λ e l.
         firm-then (read-expr deepest n l) _ _ (expr-firm deepest n l) (λ f. tt) (λ f m. firm-got (store (at bs 1) e f) m)))))
     order-firm bs a-send = firm-room 2 bs _ _ (λ h. firm-operand 1 1 (length signals + 1) bs _ _ (omega arith) (rw (at-front bs cs 1 (omega arith), drop-append-le 2 bs cs h)
-      (firm-then (read-expr deepest n (drop 2 bs)) _ _ (expr-firm deepest n (drop 2 bs)) (λ e. used-then (read-exprs (parameters signals (at bs 1)) n []) _ (exprs-used (parameters signals (at bs 1)) n) (λ es. tt)) (λ e l.
+        (firm-then (read-expr deepest n (drop 2 bs)) _ _ (expr-firm deepest n (drop 2 bs)) (λ e. used-then (read-exprs (parameters signals (at bs 1)) n []) _ (exprs-used (parameters signals (at bs 1)) n) (λ es. tt)) (λ e l.
         firm-then (read-exprs (parameters signals (at bs 1)) n l) _ _ (exprs-firm (parameters signals (at bs 1)) n l) (λ es. tt) (λ es m. firm-got (send (at bs 1) e es) m)))))
 
     stmt-firm : (bs : List ℕ) → Firm (read-stmt signals n bs) (read-stmt signals n (bs ++ cs))
@@ -124,7 +124,7 @@ module _ (cs : List ℕ) where
 
     end-firm : (bs : List ℕ) (x y : Read (List Stmt)) → Firm x y → Firm (end-or signals n bs x) (end-or signals n (bs ++ cs) y)
     end-firm bs x y h = firm-room 1 bs _ _ (λ o. rw (at-front bs cs 0 o, drop-append-le 1 bs cs o)
-      (firm-when (eqb (at bs 0) 0x00) _ _ _ _ (firm-got [] (drop 1 bs)) (firm-known bs (order (at bs 0)) _ _ (λ _. h))))
+        (firm-when (eqb (at bs 0) 0x00) _ _ _ _ (firm-got [] (drop 1 bs)) (firm-known bs (order (at bs 0)) _ _ (λ _. h))))
 
     effect-used : (k : ℕ) → Used (read-effect signals n k [])
     effect-used zero = refl
@@ -133,7 +133,7 @@ module _ (cs : List ℕ) where
     effect-firm : (k : ℕ) (bs : List ℕ) → Firm (read-effect signals n k bs) (read-effect signals n k (bs ++ cs))
     effect-firm zero bs = end-firm bs _ _ (inr refl)
     effect-firm (suc k) bs = end-firm bs _ _ (firm-then (read-stmt signals n bs) _ _ (stmt-firm bs) (λ c. used-then (read-effect signals n k []) _ (effect-used k) (λ x. tt)) (λ c l.
-      firm-then (read-effect signals n k l) _ _ (effect-firm k l) (λ x. tt) (λ x m. firm-got (c ∷ x) m)))
+        firm-then (read-effect signals n k l) _ _ (effect-firm k l) (λ x. tt) (λ x m. firm-got (c ∷ x) m)))
 
     receiver-firm : (t : Bool) (k : ℕ) (bs : List ℕ) (x y : Read Transition) → k < length bs → Firm x y → Firm (receiver n t k bs x) (receiver n t k (bs ++ cs) y)
     receiver-firm true k bs x y h f = firm-operand k 0 n bs x y h f
@@ -141,13 +141,13 @@ module _ (cs : List ℕ) where
 
     code-firm : (f t s : ℕ) (ps bs : List ℕ) → Firm (read-code signals n f t s ps bs) (read-code signals n f t s ps (bs ++ cs))
     code-firm f t s ps bs = firm-then (read-expr deepest n bs) _ _ (expr-firm deepest n bs) (λ e. used-then (read-effect signals n most-statements []) _ (effect-used most-statements) (λ x. tt)) (λ e l.
-      firm-then (read-effect signals n most-statements l) _ _ (effect-firm most-statements l) (λ x. tt) (λ x r. firm-got _ r))
+        firm-then (read-effect signals n most-statements l) _ _ (effect-firm most-statements l) (λ x. tt) (λ x r. firm-got _ r))
 
     transition-firm : (m : ℕ) (bs : List ℕ) → 6 ≤ length bs → Firm (read-transition signals n m bs) (read-transition signals n m (bs ++ cs))
     transition-firm m bs h = firm-operand 1 0 m bs _ _ (omega arith) (firm-operand 2 0 m bs _ _ (omega arith) (firm-operand 3 0 (length signals + 1) bs _ _ (omega arith)
-      (rw (at-front bs cs 1 (omega arith), at-front bs cs 2 (omega arith), at-front bs cs 3 (omega arith), at-front bs cs 4 (omega arith), at-front bs cs 5 (omega arith), drop-append-le 6 bs cs h)
+        (rw (at-front bs cs 1 (omega arith), at-front bs cs 2 (omega arith), at-front bs cs 3 (omega arith), at-front bs cs 4 (omega arith), at-front bs cs 5 (omega arith), drop-append-le 6 bs cs h)
         (receiver-firm (ltb 0 (parameters signals (at bs 3))) 4 bs _ _ (omega arith) (receiver-firm (ltb 1 (parameters signals (at bs 3))) 5 bs _ _ (omega arith)
-          (code-firm (at bs 1) (at bs 2) (at bs 3) _ (drop 6 bs)))))))
+        (code-firm (at bs 1) (at bs 2) (at bs 3) _ (drop 6 bs)))))))
 
   module _ {A : Type 0} (c k : ℕ) (apart : eqb 0 c ≡ false) (item : List A → List ℕ → Read A) (ih : (xs : List A) (bs : List ℕ) → k ≤ length bs → Firm (item xs bs) (item xs (bs ++ cs))) where
     many-used : (left : ℕ) (xs : List A) → Used (many c k item left xs [])
@@ -158,7 +158,7 @@ module _ (cs : List ℕ) where
     many-firm left xs [] = used-firm (many c k item left xs []) _ (many-used left xs)
     many-firm zero xs (b ∷ bs) = firm-when (eqb b c) _ _ _ _ (firm-room k (b ∷ bs) _ _ (λ h. inr refl)) (firm-got xs (b ∷ bs))
     many-firm (suc left) xs (b ∷ bs) = firm-when (eqb b c) _ _ _ _ (firm-room k (b ∷ bs) _ _ (λ h.
-      firm-then (item xs (b ∷ bs)) _ _ (ih xs (b ∷ bs) h) (λ x. many-used left (xs ++ (x ∷ []))) (λ x l. many-firm left (xs ++ (x ∷ [])) l))) (firm-got xs (b ∷ bs))
+        firm-then (item xs (b ∷ bs)) _ _ (ih xs (b ∷ bs) h) (λ x. many-used left (xs ++ (x ∷ []))) (λ x l. many-firm left (xs ++ (x ∷ [])) l))) (firm-got xs (b ∷ bs))
 
   signals-firm : (bs : List ℕ) → Firm (read-signals bs) (read-signals (bs ++ cs))
   signals-firm bs = many-firm 0x01 2 refl (λ _. read-signal) (λ xs bs h. firm-operand 1 0 3 bs _ _ (omega arith) (rw (at-front bs cs 1 (omega arith), drop-append-le 2 bs cs h) (firm-got _ (drop 2 bs)))) most-signals [] bs
@@ -166,9 +166,9 @@ module _ (cs : List ℕ) where
   module _ (signals : List ℕ) where
     kind-firm : (used : ℕ) (bs : List ℕ) → 3 ≤ length bs → Firm (read-kind signals used bs) (read-kind signals used (bs ++ cs))
     kind-firm used bs h = firm-operand 1 0 9 bs _ _ (omega arith) (firm-operand 2 1 17 bs _ _ (omega arith)
-      (rw (at-front bs cs 1 (omega arith), at-front bs cs 2 (omega arith), drop-append-le 3 bs cs h)
+        (rw (at-front bs cs 1 (omega arith), at-front bs cs 2 (omega arith), drop-append-le 3 bs cs h)
         (firm-then (read-transitions signals (at bs 1) (at bs 2) (most-transitions - used) (drop 3 bs)) _ _
-          (many-firm 0x03 6 refl (λ _. read-transition signals (at bs 1) (at bs 2)) (λ _. transition-firm signals (at bs 1) (at bs 2)) (most-transitions - used) [] (drop 3 bs)) (λ ts. tt) (λ ts l. firm-got _ l))))
+        (many-firm 0x03 6 refl (λ _. read-transition signals (at bs 1) (at bs 2)) (λ _. transition-firm signals (at bs 1) (at bs 2)) (most-transitions - used) [] (drop 3 bs)) (λ ts. tt) (λ ts l. firm-got _ l))))
 
     kinds-used : Used (read-kinds signals [])
     kinds-used = many-used 0x02 3 refl (λ ks. read-kind signals (count ks)) (λ ks. kind-firm (count ks)) most-kinds []
@@ -178,7 +178,7 @@ module _ (cs : List ℕ) where
 
   start-firm : (n : ℕ) (bs : List ℕ) → 6 ≤ length bs → Firm (read-start n bs) (read-start n (bs ++ cs))
   start-firm n bs h = firm-operand 1 0 n bs _ _ (omega arith)
-    (rw (at-front bs cs 1 (omega arith), at-front bs cs 2 (omega arith), at-front bs cs 3 (omega arith), at-front bs cs 4 (omega arith), at-front bs cs 5 (omega arith), drop-append-le 6 bs cs h) (firm-got _ (drop 6 bs)))
+      (rw (at-front bs cs 1 (omega arith), at-front bs cs 2 (omega arith), at-front bs cs 3 (omega arith), at-front bs cs 4 (omega arith), at-front bs cs 5 (omega arith), drop-append-le 6 bs cs h) (firm-got _ (drop 6 bs)))
 
   -- starting numbers: there are never more of them than bytes, so a higher limit changes nothing
   more-limit : (n left more : ℕ) (xs : List Start) (bs : List ℕ) → length bs ≤ left → length bs ≤ more → many 0x05 6 (λ _. read-start n) left xs bs ≡ many 0x05 6 (λ _. read-start n) more xs bs
@@ -189,11 +189,11 @@ module _ (cs : List ℕ) where
   more-limit n (suc left) zero xs (b ∷ bs) h k = absurd (omega arith)
   more-limit n (suc left) (suc more) xs [] h k = refl
   more-limit n (suc left) (suc more) xs (b ∷ bs) h k =
-    let f = length-drop 5 bs in
-    ap (λ r. when (eqb b 0x05) (room 6 (b ∷ bs) r) (got xs (b ∷ bs))) (same (leb 0 (at (b ∷ bs) 1) && ltb (at (b ∷ bs) 1) n) _ (λ x. more-limit n left more (xs ++ (x ∷ [])) (drop 5 bs) (omega arith) (omega arith)))
+      let f = length-drop 5 bs in
+      ap (λ r. when (eqb b 0x05) (room 6 (b ∷ bs) r) (got xs (b ∷ bs))) (same (leb 0 (at (b ∷ bs) 1) && ltb (at (b ∷ bs) 1) n) _ (λ x. more-limit n left more (xs ++ (x ∷ [])) (drop 5 bs) (omega arith) (omega arith)))
     where
       same : (t : Bool) (s : Start) → ((x : Start) → many 0x05 6 (λ _. read-start n) left (xs ++ (x ∷ [])) (drop 5 bs) ≡ many 0x05 6 (λ _. read-start n) more (xs ++ (x ∷ [])) (drop 5 bs))
-        → then (when t (got s (drop 5 bs)) (fault (Operand OutOfRange) (b ∷ bs))) (λ x l. many 0x05 6 (λ _. read-start n) left (xs ++ (x ∷ [])) l)
+          → then (when t (got s (drop 5 bs)) (fault (Operand OutOfRange) (b ∷ bs))) (λ x l. many 0x05 6 (λ _. read-start n) left (xs ++ (x ∷ [])) l)
           ≡ then (when t (got s (drop 5 bs)) (fault (Operand OutOfRange) (b ∷ bs))) (λ x l. many 0x05 6 (λ _. read-start n) more (xs ++ (x ∷ [])) l)
       same true s f = f s
       same false s f = refl
@@ -201,12 +201,12 @@ module _ (cs : List ℕ) where
   module _ (counts : List ℕ) where
     piece-firm : (bs : List ℕ) → 2 ≤ length bs → Firm (read-piece counts bs) (read-piece counts (bs ++ cs))
     piece-firm bs h =
-      let f = length-drop 2 bs in
-      let g = length-append bs cs in
-      let e = more-limit (getD counts (at bs 1) 0) (length bs) (length (bs ++ cs)) [] (drop 2 bs) (omega arith) (omega arith) in
-      firm-operand 1 0 (length counts) bs _ _ (omega arith) (rw (at-front bs cs 1 (omega arith), drop-append-le 2 bs cs h, e)
+        let f = length-drop 2 bs in
+        let g = length-append bs cs in
+        let e = more-limit (getD counts (at bs 1) 0) (length bs) (length (bs ++ cs)) [] (drop 2 bs) (omega arith) (omega arith) in
+        firm-operand 1 0 (length counts) bs _ _ (omega arith) (rw (at-front bs cs 1 (omega arith), drop-append-le 2 bs cs h, e)
         (firm-then (read-starts (getD counts (at bs 1) 0) (length (bs ++ cs)) (drop 2 bs)) _ _
-          (many-firm 0x05 6 refl (λ _. read-start (getD counts (at bs 1) 0)) (λ _. start-firm (getD counts (at bs 1) 0)) (length (bs ++ cs)) [] (drop 2 bs)) (λ ss. tt) (λ ss l. firm-got _ l)))
+        (many-firm 0x05 6 refl (λ _. read-start (getD counts (at bs 1) 0)) (λ _. start-firm (getD counts (at bs 1) 0)) (length (bs ++ cs)) [] (drop 2 bs)) (λ ss. tt) (λ ss l. firm-got _ l)))
 
     pieces-used : Used (read-pieces counts [])
     pieces-used = many-used 0x04 2 refl (λ _. read-piece counts) (λ _. piece-firm) most-pieces []
@@ -225,29 +225,30 @@ module _ (cs : List ℕ) where
     where
       two : (m : ℕ) → eqb (suc (suc m)) 1 ≡ false
       two m = ne-eqb (suc (suc m)) 1 (λ e. omega arith)
+
       by : (t : Bool) → Firm {A = Unit} (when t (fault NotCommand (d ∷ bs)) (fault NotCommand (b ∷ (d ∷ bs)))) (when t (fault NotCommand (d ∷ (bs ++ cs))) (fault NotCommand (b ∷ (d ∷ (bs ++ cs)))))
       by true = inr refl
       by false = inr refl
 
   sections-firm : (bs : List ℕ) → Firm (read-sections bs) (read-sections (bs ++ cs))
   sections-firm bs = firm-then (read-signals bs) _ _ (signals-firm bs)
-    (λ ss. used-then (read-kinds ss []) _ (kinds-used ss) (λ ks. used-then (read-pieces (counts ks) []) _ (pieces-used (counts ks)) (λ ps. refl)))
-    (λ ss l. firm-then (read-kinds ss l) _ _ (kinds-firm ss l) (λ ks. used-then (read-pieces (counts ks) []) _ (pieces-used (counts ks)) (λ ps. refl))
+      (λ ss. used-then (read-kinds ss []) _ (kinds-used ss) (λ ks. used-then (read-pieces (counts ks) []) _ (pieces-used (counts ks)) (λ ps. refl)))
+      (λ ss l. firm-then (read-kinds ss l) _ _ (kinds-firm ss l) (λ ks. used-then (read-pieces (counts ks) []) _ (pieces-used (counts ks)) (λ ps. refl))
       (λ ks m. firm-then (read-pieces (counts ks) m) _ _ (pieces-firm (counts ks) m) (λ ps. refl)
-        (λ ps r. firm-then (read-end r) _ _ (last-firm r) (λ _. tt) (λ _ e. firm-got _ e))))
+      (λ ps r. firm-then (read-end r) _ _ (last-firm r) (λ _. tt) (λ _ e. firm-got _ e))))
 
   settle : (n : ℕ) (x y : Read Level) (f : LevelFault) → Firm x y → verdict n x ≡ Err f → (number f ≡ 11 → ⊥) → verdict (n + length cs) y ≡ Err f
   settle n (got L l) y f h e k = absurd (let z : _≡_ {A = ℕ} 0 1 = cc in omega arith)
   settle n (bad x) y f (inl q) e k = absurd (k (let w : f ≡ record { reason = x .reason; byte = n - length (x .from) } = cc in ap number w ∙ ap number-of-reason q))
   settle n (bad x) y f (inr q) e k =
-    let j = length-append (x .from) cs in
-    let z : n + length cs - length (x .from ++ cs) ≡ n - length (x .from) = omega arith in
-    ap (verdict (n + length cs)) q ∙ rw z e
+      let j = length-append (x .from) cs in
+      let z : n + length cs - length (x .from ++ cs) ≡ n - length (x .from) = omega arith in
+      ap (verdict (n + length cs)) q ∙ rw z e
 
 pub settled : (bs cs : List ℕ) (f : LevelFault) → read bs ≡ Err f → (number f ≡ 11 → ⊥) → length (bs ++ cs) ≤ most-bytes → read (bs ++ cs) ≡ Err f
 settled bs cs f e k h =
-  let g = length-append bs cs in
-  let a : read-level bs ≡ read-sections bs = rw (le-leb (length bs) most-bytes (omega arith)) in
-  let b : read-level (bs ++ cs) ≡ read-sections (bs ++ cs) = rw (le-leb (length (bs ++ cs)) most-bytes h) in
-  let j = settle cs (length bs) (read-sections bs) (read-sections (bs ++ cs)) f (sections-firm cs bs) (ap (verdict (length bs)) (sym a) ∙ e) k in
-  ap (verdict (length (bs ++ cs))) b ∙ (ap (λ n. verdict n (read-sections (bs ++ cs))) g ∙ j)
+    let g = length-append bs cs in
+    let a : read-level bs ≡ read-sections bs = rw (le-leb (length bs) most-bytes (omega arith)) in
+    let b : read-level (bs ++ cs) ≡ read-sections (bs ++ cs) = rw (le-leb (length (bs ++ cs)) most-bytes h) in
+    let j = settle cs (length bs) (read-sections bs) (read-sections (bs ++ cs)) f (sections-firm cs bs) (ap (verdict (length bs)) (sym a) ∙ e) k in
+    ap (verdict (length (bs ++ cs))) b ∙ (ap (λ n. verdict n (read-sections (bs ++ cs))) g ∙ j)

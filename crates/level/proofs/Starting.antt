@@ -71,9 +71,9 @@ module _ (n : ℕ) (bs₀ : List ℕ) where
       module _ (y : Bytes bs) (v : StartEntry) (l : List ℕ) (h : Gives start-entry one (Ok v) l) where
         read-as : (x : Start) × (6 ≤ length bs) × (read-start n bs ≡ got x l) × (v ≡ start-entry x)
         read-as =
-          let w = went start-entry one v l h in
-          let r = room-got 6 bs (read-start n bs) (w .0) l (w .1) in
-          (w .0, r .0, r .1, w .2)
+            let w = went start-entry one v l h in
+            let r = room-got 6 bs (read-start n bs) (w .0) l (w .1) in
+            (w .0, r .0, r .1, w .2)
 
         sound : SoundStart n (read-as .0)
         sound = subst (Reads (SoundStart n) start bs) (read-as .2) (start-reads n bs y (read-as .1) b) .1
@@ -86,14 +86,15 @@ module _ (n : ℕ) (bs₀ : List ℕ) where
         kept = toZ-ofZ w32 (v .value) (rw (read-as .3) (sound .value))
 
         pub starts-again : Filled 0x05 6 most item (Laid (set row (v .number) (toZ w32 (ofZ w32 (v .value)))) l) whole l
-        starts-again = rw kept (again 0x05 6 most item (Laid row bs) whole bs s start-entry b (Laid (set row (v .number) (v .value)) l) v l (subst (λ R. Gives start-entry R (Ok v) l) same h) (λ x k _ e q.
-          (s .known .0 ∙ (ap (λ z. all start (s .so-far) ++ z) (spelled (SoundStart n) start bs _ (start-reads n bs y k b) x l e) ∙ sym (all-push start (s .so-far) x l)),
-           rw (s .known .1, q) (sym (laid-push (replicate 8 (pos 0)) (s .so-far) x)))))
+        starts-again = rw kept (again 0x05 6 most item (Laid row bs) whole bs s start-entry b (Laid (set row (v .number) (v .value)) l) v l (subst (λ R. Gives start-entry R (Ok v) l) same h) (λ x k _ e q. (
+          s .known .0 ∙ (ap (λ z. all start (s .so-far) ++ z) (spelled (SoundStart n) start bs _ (start-reads n bs y k b) x l e) ∙ sym (all-push start (s .so-far) x l)),
+          rw (s .known .1, q) (sym (laid-push (replicate 8 (pos 0)) (s .so-far) x)),
+        )))
 
         pub starts-less : length l < length bs
         starts-less =
-          let e = ap length (spelled (SoundStart n) start bs _ (start-reads n bs y (read-as .1) b) (read-as .0) l (read-as .2)) ∙ length-append (start (read-as .0)) l in
-          omega arith
+            let e = ap length (spelled (SoundStart n) start bs _ (start-reads n bs y (read-as .1) b) (read-as .0) l (read-as .2)) ∙ length-append (start (read-as .0)) l in
+            omega arith
 
     pub starts-done : (at bs 0 ≡ 0x05 → ⊥) → whole ≡ got (s .so-far) bs
     starts-done h = ends 0x05 6 most item (Laid row bs) whole bs s h

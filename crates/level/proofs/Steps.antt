@@ -39,7 +39,7 @@ reads-on S s P n bs (bad x) k y h f = n x
 
 module _ {A B : Type 0} (S : A → Type 0) (s : A → List ℕ) (S′ : B → Type 0) (s′ : B → List ℕ) where
   pub reads-then : (bs bs′ : List ℕ) (r : Read A) (k : A → List ℕ → Read B) → Bytes bs → Reads S s bs r
-    → ((a : A) (m : List ℕ) → Bytes m → bs ≡ s a ++ m → S a → Reads S′ s′ bs′ (k a m)) → Reads S′ s′ bs′ (then r k)
+      → ((a : A) (m : List ℕ) → Bytes m → bs ≡ s a ++ m → S a → Reads S′ s′ bs′ (k a m)) → Reads S′ s′ bs′ (then r k)
   reads-then bs bs′ r k y h f = reads-on S s (Reads S′ s′ bs′) (λ x. tt) bs r k y h f
 
 module _ {A : Type 0} (S : A → Type 0) (s : A → List ℕ) where
@@ -48,16 +48,16 @@ module _ {A : Type 0} (S : A → Type 0) (s : A → List ℕ) where
   reads-when bs false r f h g = g
 
   pub reads-operand : (bs : List ℕ) (k least limit : ℕ) (at′ : List ℕ) (r : Read A)
-    → (least ≤ at at′ k → at at′ k < limit → Reads S s bs r) → Reads S s bs (operand k least limit at′ r)
+      → (least ≤ at at′ k → at at′ k < limit → Reads S s bs r) → Reads S s bs (operand k least limit at′ r)
   reads-operand bs k least limit at′ r h = reads-when bs (leb least (at at′ k) && ltb (at at′ k) limit) r _ (λ t.
-    let i = inside-true least (at at′ k) limit t in h (i .0) (i .1)) tt
+      let i = inside-true least (at at′ k) limit t in h (i .0) (i .1)) tt
 
   pub reads-room : (k : ℕ) (bs bs′ : List ℕ) (r : Read A) → (k ≤ length bs → Reads S s bs′ r) → Reads S s bs′ (room k bs r)
   reads-room k bs bs′ r h = reads-when bs′ (leb k (length bs)) r _ (λ t. h (leb-true k (length bs) t)) tt
 
   -- a command that a table gives stands there with its byte
   pub reads-known : {F : Type 0} (lead : F → ℕ) (bs : List ℕ) (b : ℕ) (o : Option F) (next : F → Read A)
-    → Named lead b o → ((f : F) → lead f ≡ b → Reads S s bs (next f)) → Reads S s bs (known bs o next)
+      → Named lead b o → ((f : F) → lead f ≡ b → Reads S s bs (next f)) → Reads S s bs (known bs o next)
   reads-known lead bs b None next n h = tt
   reads-known lead bs b (Some f) next n h = h f n
 

@@ -47,16 +47,16 @@ module _ (signals : List ℕ) (n : ℕ) where
 
   received-then : (m : ℕ) (bs : List ℕ) (c : ℕ) → read-received signals n c bs ≡ then (receivers-at signals n m bs c) code
   received-then m bs c =
-    ap (receiver n (ltb 0 c) 4 bs) (receiver-then n (ltb 1 c) 5 bs (got (head-at signals n m bs c) (drop 6 bs)) code)
-    ∙ receiver-then n (ltb 0 c) 4 bs (receiver n (ltb 1 c) 5 bs (got (head-at signals n m bs c) (drop 6 bs))) code
+      ap (receiver n (ltb 0 c) 4 bs) (receiver-then n (ltb 1 c) 5 bs (got (head-at signals n m bs c) (drop 6 bs)) code)
+      ∙ receiver-then n (ltb 0 c) 4 bs (receiver n (ltb 1 c) 5 bs (got (head-at signals n m bs c) (drop 6 bs))) code
 
   transition-then : (m : ℕ) (bs : List ℕ) → read-transition signals n m bs ≡ then (read-head signals n m bs) code
   transition-then m bs =
-    let c = parameters signals (at bs 3) in
-    ap (λ X. operand 1 0 m bs (operand 2 0 m bs (operand 3 0 (length signals + 1) bs X))) (received-then m bs c)
-    ∙ (ap (λ X. operand 1 0 m bs (operand 2 0 m bs X)) (operand-then 3 0 (length signals + 1) bs (receivers-at signals n m bs c) code)
-    ∙ (ap (λ X. operand 1 0 m bs X) (operand-then 2 0 m bs (operand 3 0 (length signals + 1) bs (receivers-at signals n m bs c)) code)
-    ∙ operand-then 1 0 m bs (operand 2 0 m bs (operand 3 0 (length signals + 1) bs (receivers-at signals n m bs c))) code))
+      let c = parameters signals (at bs 3) in
+      ap (λ X. operand 1 0 m bs (operand 2 0 m bs (operand 3 0 (length signals + 1) bs X))) (received-then m bs c)
+      ∙ (ap (λ X. operand 1 0 m bs (operand 2 0 m bs X)) (operand-then 3 0 (length signals + 1) bs (receivers-at signals n m bs c) code)
+      ∙ (ap (λ X. operand 1 0 m bs X) (operand-then 2 0 m bs (operand 3 0 (length signals + 1) bs (receivers-at signals n m bs c)) code)
+      ∙ operand-then 1 0 m bs (operand 2 0 m bs (operand 3 0 (length signals + 1) bs (receivers-at signals n m bs c))) code))
 
 -- operands take so many bytes
 abbrev pub Drops : {A : Type 0} → ℕ → List ℕ → Read A → Type 0
@@ -76,7 +76,7 @@ drops-receiver m bs n false k X h = drops-operand m bs k 255 256 X h
 
 head-six : (signals : List ℕ) (n m : ℕ) (bs : List ℕ) → Drops 6 bs (read-head signals n m bs)
 head-six signals n m bs = drops-operand 6 bs 1 0 m _ (drops-operand 6 bs 2 0 m _ (drops-operand 6 bs 3 0 (length signals + 1) _
-  (drops-receiver 6 bs n (ltb 0 (parameters signals (at bs 3))) 4 _ (drops-receiver 6 bs n (ltb 1 (parameters signals (at bs 3))) 5 _ refl))))
+    (drops-receiver 6 bs n (ltb 0 (parameters signals (at bs 3))) 4 _ (drops-receiver 6 bs n (ltb 1 (parameters signals (at bs 3))) 5 _ refl))))
 
 abbrev entered : ℕ → HeadEntry → ℕ → ℕ → TransitionEntry
 entered k h i j = record { kind = k; source = h .source; target = h .target; signal = h .signal; first = h .first; second = h .second; guard = i; effect = j }
@@ -93,9 +93,9 @@ module _ (signals : List ℕ) (n m total number N : ℕ) (bs l0 : List ℕ) (o :
 
   there : (6 ≤ length bs) × (N < 128) × (bs ≡ l0)
   there =
-    let w = went nothing (opened 6 128 N bs) tt l0 o in
-    let t = turn-got 6 128 N bs (got tt bs) (w .0) l0 (w .1) in
-    (t .0, t .1, let e = t .2 in cc)
+      let w = went nothing (opened 6 128 N bs) tt l0 o in
+      let t = turn-got 6 128 N bs (got tt bs) (w .0) l0 (w .1) in
+      (t .0, t .1, let e = t .2 in cc)
 
   whole : W ≡ then (read-head signals n m l0) (code signals n)
   whole = room-in 6 bs _ (there .0) ∙ (rw (lt-ltb N 128 (there .1)) (transition-then signals n m bs ∙ ap (λ z. then (read-head signals n m z) (code signals n)) (there .2)))
@@ -109,7 +109,7 @@ module _ (signals : List ℕ) (n m total number N : ℕ) (bs l0 : List ℕ) (o :
 
     abbrev effects : Expr → List ℕ → Read Transition
     effects e l = then (read-effect signals n most-statements l) (λ cs r.
-      got (record { source = head-is .0 .source; target = head-is .0 .target; signal = head-is .0 .signal; receives = head-is .0 .receives; guard = e; effect = cs }) r)
+        got (record { source = head-is .0 .source; target = head-is .0 .target; signal = head-is .0 .signal; receives = head-is .0 .receives; guard = e; effect = cs }) r)
 
     pub guard-broke : (e : Reason) (l : List ℕ) → Gives nothing (read-expr deepest n l1) (Err e) l → (s : Result TransitionEntry Reason) → s ≡ Err e → Gives E W s l
     guard-broke e l x s q = broke W (read-expr deepest n) effects l1 l1 (head-is .1) refl nothing E e l x s q
@@ -127,16 +127,16 @@ module _ (signals : List ℕ) (n m total number N : ℕ) (bs l0 : List ℕ) (o :
 
       guard-size : length l1 ≡ size (guard-is .0) + length l2
       guard-size =
-        let r = subst (Reads (SoundExpr deepest n) expression l1) (guard-is .3) (expr-reads deepest n l1 (subst Bytes (sym guard-at) (bytes-drop 6 bs y))) in
-        ap length (r .0) ∙ length-append (expression (guard-is .0)) l2
+          let r = subst (Reads (SoundExpr deepest n) expression l1) (guard-is .3) (expr-reads deepest n l1 (subst Bytes (sym guard-at) (bytes-drop 6 bs y))) in
+          ap length (r .0) ∙ length-append (expression (guard-is .0)) l2
 
       pub made : (l3 : List ℕ) → Gives nothing (read-effect signals n most-statements l2) (Ok tt) l3 → (i j : ℕ) → i ≡ total - length l1 → j ≡ total - length l2
-        → Gives E W (Ok (entered number h i j)) l3
+          → Gives E W (Ok (entered number h i j)) l3
       made l3 x i j p q =
-        let w = goes-on W (read-effect signals n most-statements) _ l2 l2 (guard-is .1) refl nothing tt l3 x in
-        let k = guard-size in
-        let six = there .0 in
-        let u : length l1 ≡ length bs - 6 = ap length guard-at ∙ length-drop 6 bs in
-        let v : i ≡ total - length bs + 6 = omega arith in
-        let z : j ≡ total - length bs + 6 + size (guard-is .0) = omega arith in
-        done E W _ l3 (w .1) _ l3 (entered-same number h _ i j _ _ (head-is .2) v z) refl
+          let w = goes-on W (read-effect signals n most-statements) _ l2 l2 (guard-is .1) refl nothing tt l3 x in
+          let k = guard-size in
+          let six = there .0 in
+          let u : length l1 ≡ length bs - 6 = ap length guard-at ∙ length-drop 6 bs in
+          let v : i ≡ total - length bs + 6 = omega arith in
+          let z : j ≡ total - length bs + 6 + size (guard-is .0) = omega arith in
+          done E W _ l3 (w .1) _ l3 (entered-same number h _ i j _ _ (head-is .2) v z) refl

@@ -39,7 +39,7 @@ module _ {A B : Type 0} (f : A → B) (R : Read A) where
 
   -- the last call, whose answer is made into another
   pub last : {C D : Type 0} (g : C → D) (F : A → C) (h : B → D) → ((a : A) → g (F a) ≡ h (f a)) → (r : Result B Reason) (l : List ℕ) → Gives f R r l
-    → (s : Result D Reason) → ((b : B) → r ≡ Ok b → s ≡ Ok (h b)) → ((e : Reason) → r ≡ Err e → s ≡ Err e) → Gives g (then R (λ a m. got (F a) m)) s l
+      → (s : Result D Reason) → ((b : B) → r ≡ Ok b → s ≡ Ok (h b)) → ((e : Reason) → r ≡ Err e → s ≡ Err e) → Gives g (then R (λ a m. got (F a) m)) s l
   last {C} {D} g F h e r l p s o n = by R (p .answer) (p .rest)
     where
       by : (R : Read A) → r ≡ answered f R → l ≡ remains R → Gives g (then R (λ a m. got (F a) m)) s l
@@ -59,18 +59,18 @@ module _ {A C : Type 0} (R : Read C) (F : List ℕ → Read A) (k : A → List �
   -- it answered, and reading goes on from there
   pub goes-on : {B : Type 0} (f : A → B) (b : B) (l : List ℕ) → Gives f (F x) (Ok b) l → (a : A) × (R ≡ k a l) × (b ≡ f a) × (F y ≡ got a l)
   goes-on f b l h =
-    let w = went f (F y) b l (subst (λ z. Gives f (F z) (Ok b) l) same h) in
-    (w .0, begins ∙ ap (λ z. then z k) (w .1), w .2, w .1)
+      let w = went f (F y) b l (subst (λ z. Gives f (F z) (Ok b) l) same h) in
+      (w .0, begins ∙ ap (λ z. then z k) (w .1), w .2, w .1)
 
 -- it was the last, and only whether it was read counts
 pub tail : {A C : Type 0} (R : Read C) (F : List ℕ → Read A) (G : A → C) (x y : List ℕ) → R ≡ then (F y) (λ a m. got (G a) m) → x ≡ y
-  → (r : Result Unit Reason) (l : List ℕ) → Gives nothing (F x) r l → Gives nothing R r l
+    → (r : Result Unit Reason) (l : List ℕ) → Gives nothing (F x) r l → Gives nothing R r l
 tail R F G x y e q r l h = rw e (last-none (F y) G r l (subst (λ z. Gives nothing (F z) r l) q h))
 
 -- two calls, of which the first answered and the second is the last
 pub two : {A B C : Type 0} (R : Read C) (F : List ℕ → Read A) (G : List ℕ → Read B) (K : A → B → C) (x y : List ℕ)
-  → R ≡ then (F y) (λ a l. then (G l) (λ b m. got (K a b) m)) → x ≡ y
-  → (l : List ℕ) → Gives nothing (F x) (Ok tt) l → (r : Result Unit Reason) (m : List ℕ) → Gives nothing (G l) r m → Gives nothing R r m
+    → R ≡ then (F y) (λ a l. then (G l) (λ b m. got (K a b) m)) → x ≡ y
+    → (l : List ℕ) → Gives nothing (F x) (Ok tt) l → (r : Result Unit Reason) (m : List ℕ) → Gives nothing (G l) r m → Gives nothing R r m
 two R F G K x y e q l h r m g =
-  let w = goes-on R F (λ a l. then (G l) (λ b m. got (K a b) m)) x y e q nothing tt l h in
-  tail R G (K (w .0)) l l (w .1) refl r m g
+    let w = goes-on R F (λ a l. then (G l) (λ b m. got (K a b) m)) x y e q nothing tt l h in
+    tail R G (K (w .0)) l l (w .1) refl r m g

@@ -53,8 +53,8 @@ level-whole bs y = whole-if bs (leb (length bs) most-bytes) _ _ (λ t.
     reads-on (λ ks. (length ks ≤ most-kinds) × SoundKinds ss (v .1) ks) (all kind) (Whole bs) (λ f. tt) l (read-kinds ss l) _ w (kinds-reads ss (v .1) most-kinds l w) (λ ks m w′ q′ v′.
     reads-on (λ ps. (length ps ≤ most-pieces) × Each (SoundPiece ks) ps) (all piece) (Whole bs) (λ f. tt) m (read-pieces (counts ks) m) _ w′ (pieces-reads ks most-pieces m w′) (λ ps r w″ q″ v″.
     end-on bs (record { signals = ss; kinds = ks; pieces = ps }) r (read-end r) (end-ends r) (λ e.
-      let s : level (record { signals = ss; kinds = ks; pieces = ps }) ≡ bs = rw (← e, ← q″, ← q′, ← q) in
-      (s, record { few-signals = v .0; signals = v .1; few-kinds = v′ .0; few-transitions = v′ .1 .0; kinds = v′ .1 .1; few-pieces = v″ .0; pieces = v″ .1; few-bytes = rw s (leb-true _ _ t) })))))) tt
+    let s : level (record { signals = ss; kinds = ks; pieces = ps }) ≡ bs = rw (← e, ← q″, ← q′, ← q) in
+    (s, record { few-signals = v .0; signals = v .1; few-kinds = v′ .0; few-transitions = v′ .1 .0; kinds = v′ .1 .1; few-pieces = v″ .0; pieces = v″ .1; few-bytes = rw s (leb-true _ _ t) })))))) tt
 
 -- what follows the signals, and the kinds
 after-signals : (ks : List Kind) (ps : List Piece) → eqb (at (all kind ks ++ (all piece ps ++ (0x06 ∷ []))) 0) 0x01 ≡ false

@@ -16,9 +16,15 @@ kind-entry k = record { numbers = k .numbers; states = k .states }
 
 abbrev pub transition-entry : Placed → TransitionEntry
 transition-entry x = record {
-    kind = x .kind; source = x .transition .source; target = x .transition .target; signal = x .transition .signal;
-    first = nth (x .transition .receives) 0; second = nth (x .transition .receives) 1;
-    guard = x .guard; effect = effect-place x }
+  kind = x .kind;
+  source = x .transition .source;
+  target = x .transition .target;
+  signal = x .transition .signal;
+  first = nth (x .transition .receives) 0;
+  second = nth (x .transition .receives) 1;
+  guard = x .guard;
+  effect = effect-place x;
+}
 
 -- eight numbers with the starting values laid over them, of two for one number the last
 abbrev pub laid : List ℤ → List Start → List ℤ
@@ -41,7 +47,8 @@ pub record Index : Type 0 where
 
 abbrev pub index-of : Level → Index
 index-of L = record {
-    signals = L .signals;
-    kinds = map kind-entry (L .kinds);
-    transitions = map transition-entry (placed L);
-    pieces = map (piece-entry (counts (L .kinds))) (L .pieces) }
+  signals = L .signals;
+  kinds = map kind-entry (L .kinds);
+  transitions = map transition-entry (placed L);
+  pieces = map (piece-entry (counts (L .kinds))) (L .pieces);
+}

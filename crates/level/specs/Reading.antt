@@ -185,7 +185,7 @@ module _ (signals : List ℕ) where
   abbrev pub read-kind : ℕ → List ℕ → Read Kind
   read-kind used bs = operand 1 0 9 bs (operand 2 1 17 bs (
       then (read-transitions (at bs 1) (at bs 2) (most-transitions - used) (drop 3 bs)) (λ ts l.
-        got (record { numbers = at bs 1; states = at bs 2; transitions = ts }) l)))
+      got (record { numbers = at bs 1; states = at bs 2; transitions = ts }) l)))
 
   abbrev pub read-kinds : List ℕ → Read (List Kind)
   read-kinds bs = many 0x02 3 (λ before. read-kind (count before)) most-kinds [] bs
@@ -217,7 +217,7 @@ read-end bs = room 1 bs (when (eqb (at bs 0) 0x06)
 abbrev pub read-sections : List ℕ → Read Level
 read-sections bs =
     then (read-signals bs) (λ signals l. then (read-kinds signals l) (λ kinds m. then (read-pieces (counts kinds) m) (λ pieces r.
-      then (read-end r) (λ _ e. got (record { signals = signals; kinds = kinds; pieces = pieces }) e))))
+    then (read-end r) (λ _ e. got (record { signals = signals; kinds = kinds; pieces = pieces }) e))))
 
 abbrev pub read-level : List ℕ → Read Level
 read-level bs = when (leb (length bs) most-bytes) (read-sections bs) (fault TooLong bs)

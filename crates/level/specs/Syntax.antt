@@ -9,25 +9,25 @@ pub data Operator : Type 0 where
 
 -- an expression, evaluated for the piece that moves
 pub data Expr : Type 0 where
-  constant : ℤ → Expr -- this number
-  own-piece : Expr -- the moving piece's own piece number
-  own : ℕ → Expr -- its own number of that index
-  other : ℕ → Expr → Expr -- the number of that index of the piece that the expression names
+  constant : ℤ → Expr  -- this number
+  own-piece : Expr  -- the moving piece's own piece number
+  own : ℕ → Expr  -- its own number of that index
+  other : ℕ → Expr → Expr  -- the number of that index of the piece that the expression names
   binary : Operator → Expr → Expr → Expr
   negation : Expr → Expr
 
 -- a statement of an effect
 pub data Stmt : Type 0 where
-  assign : ℕ → Expr → Stmt -- own number, its new value
-  store : ℕ → Expr → Expr → Stmt -- number's index, the piece that has it, its new value
-  send : ℕ → Expr → List Expr → Stmt -- signal, the piece it goes to, a value for each parameter
+  assign : ℕ → Expr → Stmt  -- own number, its new value
+  store : ℕ → Expr → Expr → Stmt  -- number's index, the piece that has it, its new value
+  send : ℕ → Expr → List Expr → Stmt  -- signal, the piece it goes to, a value for each parameter
 
 -- a transition of a state machine: on a signal (0: spontaneously) from one state to another
 pub record Transition : Type 0 where
   pub source : ℕ
   pub target : ℕ
   pub signal : ℕ
-  pub receives : List ℕ -- the own numbers into which the signal's parameters are received
+  pub receives : List ℕ  -- the own numbers into which the signal's parameters are received
   pub guard : Expr
   pub effect : List Stmt
 

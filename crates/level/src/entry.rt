@@ -47,14 +47,29 @@ pub struct Start {
 }
 
 impl KindEntry {
-    pub(crate) const BLANK: KindEntry = KindEntry { numbers: 0, states: 0 };
+    pub(crate) const BLANK: KindEntry = KindEntry {
+        numbers: 0,
+        states: 0,
+    };
 }
 
 impl TransitionEntry {
-    pub(crate) const BLANK: TransitionEntry =
-        TransitionEntry { kind: 0, source: 0, target: 0, signal: 0, first: None, second: None, guard: 0, effect: 0 };
+    pub(crate) const BLANK: TransitionEntry = TransitionEntry {
+        kind: 0,
+        source: 0,
+        target: 0,
+        signal: 0,
+        first: None,
+        second: None,
+        guard: 0,
+        effect: 0,
+    };
 }
 
 impl PieceEntry {
-    pub(crate) const BLANK: PieceEntry = PieceEntry { kind: 0, numbers: 0, starts: [0; 8] };
+    pub(crate) const BLANK: PieceEntry = PieceEntry {
+        kind: 0,
+        numbers: 0,
+        starts: [0; 8],
+    };
 }

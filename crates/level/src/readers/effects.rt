@@ -45,7 +45,12 @@ impl<'a> Cursor<'a> {
     }
 
     // The statements of an effect, of which `left` may still come, and its end.
-    pub fn statements(&mut self, left: u8, signals: &Table<u8, 32>, numbers: u8) -> Result<(), Reason>
+    pub fn statements(
+        &mut self,
+        left: u8,
+        signals: &Table<u8, 32>,
+        numbers: u8,
+    ) -> Result<(), Reason>
         ensures { λ r. ⌜ Gives nothing (read-effect (listed (now (signals .entry))) numbers left (now (now (self .entry) .rest))) r (now (now (self .exit) .rest)) ⌝ }
     {
         let code = self.rest;

@@ -29,7 +29,13 @@ impl<'a> Cursor<'a> {
     }
 
     // One kind more than the table has, with its transitions, in a level of `total` bytes.
-    fn kind(&mut self, total: usize, signals: &Table<u8, 32>, kinds: &Table<KindEntry, 16>, transitions: &mut Table<TransitionEntry, 128>) -> Result<KindEntry, Reason>
+    fn kind(
+        &mut self,
+        total: usize,
+        signals: &Table<u8, 32>,
+        kinds: &Table<KindEntry, 16>,
+        transitions: &mut Table<TransitionEntry, 128>,
+    ) -> Result<KindEntry, Reason>
         requires short { ⌜ length (now (now self .rest)) ≤ total ⌝ }
         requires few { ⌜ Each (λ n. n ≤ 2) (listed (now signals)) ⌝ }
         ensures read { λ r. ⌜ Gives kind-entry (turn 3 16 (length (listed (now (kinds .entry)))) (now (now (self .entry) .rest)) (read-kind (listed (now (signals .entry))) (length (listed (now (transitions .entry)))) (now (now (self .entry) .rest)))) r (now (now (self .exit) .rest)) ⌝ }
@@ -42,7 +48,13 @@ impl<'a> Cursor<'a> {
     }
 
     // All kinds with their transitions, into empty tables.
-    pub fn kinds(&mut self, total: usize, signals: &Table<u8, 32>, kinds: &mut Table<KindEntry, 16>, transitions: &mut Table<TransitionEntry, 128>) -> Result<(), Reason>
+    pub fn kinds(
+        &mut self,
+        total: usize,
+        signals: &Table<u8, 32>,
+        kinds: &mut Table<KindEntry, 16>,
+        transitions: &mut Table<TransitionEntry, 128>,
+    ) -> Result<(), Reason>
         requires short { ⌜ length (now (now self .rest)) ≤ total ⌝ }
         requires few { ⌜ Each (λ n. n ≤ 2) (listed (now signals)) ⌝ }
         requires kinds { ⌜ listed (now kinds) ≡ [] ⌝ }

@@ -33,7 +33,12 @@ impl<'a> Cursor<'a> {
         ensures { λ r. ⌜ r ≡ number (at (now (now (self .entry) .rest)) after) (at (now (now (self .entry) .rest)) (after + 1)) (at (now (now (self .entry) .rest)) (after + 2)) (at (now (now (self .entry) .rest)) (after + 3)) ⌝ }
     {
         let code = self.rest;
-        i32::from_be_bytes([code[after], code[after + 1], code[after + 2], code[after + 3]])
+        i32::from_be_bytes([
+            code[after],
+            code[after + 1],
+            code[after + 2],
+            code[after + 3],
+        ])
     }
 
     // One starting number of a piece that has so many.
@@ -63,7 +68,11 @@ impl<'a> Cursor<'a> {
     }
 
     // One piece more than the table has.
-    fn piece(&mut self, kinds: &Table<KindEntry, 16>, pieces: &Table<PieceEntry, 32>) -> Result<PieceEntry, Reason>
+    fn piece(
+        &mut self,
+        kinds: &Table<KindEntry, 16>,
+        pieces: &Table<PieceEntry, 32>,
+    ) -> Result<PieceEntry, Reason>
         requires { ⌜ Each (λ e. e .numbers ≤ 8) (listed (now kinds)) ⌝ }
         ensures { λ r. ⌜ Gives (piece-entry (entry-counts (listed (now (kinds .entry))))) (turn 2 32 (length (listed (now (pieces .entry)))) (now (now (self .entry) .rest)) (read-piece (entry-counts (listed (now (kinds .entry)))) (now (now (self .entry) .rest)))) r (now (now (self .exit) .rest)) ⌝ }
     {
@@ -72,11 +81,19 @@ impl<'a> Cursor<'a> {
         self.advance(2);
         let numbers = numbers_of(kinds, kind);
         let starts = self.starts(numbers)?;
-        Ok(PieceEntry { kind, numbers, starts })
+        Ok(PieceEntry {
+            kind,
+            numbers,
+            starts,
+        })
     }
 
     // All pieces, into an empty table.
-    pub fn pieces(&mut self, kinds: &Table<KindEntry, 16>, pieces: &mut Table<PieceEntry, 32>) -> Result<(), Reason>
+    pub fn pieces(
+        &mut self,
+        kinds: &Table<KindEntry, 16>,
+        pieces: &mut Table<PieceEntry, 32>,
+    ) -> Result<(), Reason>
         requires small { ⌜ Each (λ e. e .numbers ≤ 8) (listed (now kinds)) ⌝ }
         requires none { ⌜ listed (now pieces) ≡ [] ⌝ }
         ensures read { λ r. ⌜ Gives nothing (read-pieces (entry-counts (listed (now (kinds .entry)))) (now (now (self .entry) .rest))) r (now (now (self .exit) .rest)) ⌝ }
@@ -100,6 +117,10 @@ impl<'a> Cursor<'a> {
             return Err(Reason::NotCommand);
         }
         self.advance(1);
-        if self.rest.len() == 0 { Ok(()) } else { Err(Reason::NotCommand) }
+        if self.rest.len() == 0 {
+            Ok(())
+        } else {
+            Err(Reason::NotCommand)
+        }
     }
 }

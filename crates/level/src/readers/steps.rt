@@ -66,7 +66,11 @@ impl<'a> Cursor<'a> {
     }
 
     // Whether the next command's bytes are all there, and the table has a place for one entry more.
-    pub fn opens<T: Copy, const N: usize>(&mut self, size: usize, table: &Table<T, N>) -> Result<(), Reason>
+    pub fn opens<T: Copy, const N: usize>(
+        &mut self,
+        size: usize,
+        table: &Table<T, N>,
+    ) -> Result<(), Reason>
         ensures { λ r. ⌜ Gives nothing (opened size N (length (listed (now (table .entry)))) (now (now (self .entry) .rest))) r (now (now (self .exit) .rest)) ⌝ }
     {
         if self.rest.len() < size {

@@ -52,11 +52,24 @@ impl<'a> Cursor<'a> {
         let first = self.receiver(4, parameters > 0, shape.numbers)?;
         let second = self.receiver(5, parameters > 1, shape.numbers)?;
         self.advance(6);
-        Ok(Head { source, target, signal, first, second })
+        Ok(Head {
+            source,
+            target,
+            signal,
+            first,
+            second,
+        })
     }
 
     // One transition more than the table has, of kind `number`, in a level of `total` bytes.
-    fn transition(&mut self, total: usize, number: u8, shape: KindEntry, signals: &Table<u8, 32>, transitions: &Table<TransitionEntry, 128>) -> Result<TransitionEntry, Reason>
+    fn transition(
+        &mut self,
+        total: usize,
+        number: u8,
+        shape: KindEntry,
+        signals: &Table<u8, 32>,
+        transitions: &Table<TransitionEntry, 128>,
+    ) -> Result<TransitionEntry, Reason>
         requires { ⌜ length (now (now self .rest)) ≤ total ⌝ }
         ensures { λ r. ⌜ Gives (λ t. transition-entry (placed-at number (shape .numbers) (total - length (now (now (self .entry) .rest))) t)) (turn 6 128 (length (listed (now (transitions .entry)))) (now (now (self .entry) .rest)) (read-transition (listed (now (signals .entry))) (shape .numbers) (shape .states) (now (now (self .entry) .rest)))) r (now (now (self .exit) .rest)) ⌝ }
     {
@@ -66,12 +79,34 @@ impl<'a> Cursor<'a> {
         self.expression(shape.numbers)?;
         let effect = self.place(total);
         self.effect(signals, shape.numbers)?;
-        let Head { source, target, signal, first, second } = head;
-        Ok(TransitionEntry { kind: number, source, target, signal, first, second, guard, effect })
+        let Head {
+            source,
+            target,
+            signal,
+            first,
+            second,
+        } = head;
+        Ok(TransitionEntry {
+            kind: number,
+            source,
+            target,
+            signal,
+            first,
+            second,
+            guard,
+            effect,
+        })
     }
 
     // All transitions of kind `number`, after those in the table.
-    pub fn transitions(&mut self, total: usize, number: u8, shape: KindEntry, signals: &Table<u8, 32>, transitions: &mut Table<TransitionEntry, 128>) -> Result<(), Reason>
+    pub fn transitions(
+        &mut self,
+        total: usize,
+        number: u8,
+        shape: KindEntry,
+        signals: &Table<u8, 32>,
+        transitions: &mut Table<TransitionEntry, 128>,
+    ) -> Result<(), Reason>
         requires short { ⌜ length (now (now self .rest)) ≤ total ⌝ }
         requires few { ⌜ Each (λ n. n ≤ 2) (listed (now signals)) ⌝ }
         ensures read { λ r. ⌜ Gives nothing (read-transitions (listed (now (signals .entry))) (shape .numbers) (shape .states) (128 - length (listed (now (transitions .entry)))) (now (now (self .entry) .rest))) r (now (now (self .exit) .rest)) ⌝ }

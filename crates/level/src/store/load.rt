@@ -16,7 +16,10 @@ impl<'a> Level<'a> {
     pub fn new() -> Self
         ensures { λ r. ⌜ code r ≡ 6 ∷ [] ⌝ }
     {
-        Level { bytes: &[0x06], index: Index::new() }
+        Level {
+            bytes: &[0x06],
+            index: Index::new(),
+        }
     }
 
     // Takes these bytes for the level, and answers how many pieces it has; or refuses, and stays the level that it was.
@@ -27,7 +30,10 @@ impl<'a> Level<'a> {
     {
         let total = bytes.len();
         if total > 8192 {
-            return Err(LevelFault { reason: Reason::TooLong, byte: 0 });
+            return Err(LevelFault {
+                reason: Reason::TooLong,
+                byte: 0,
+            });
         }
         let mut cursor = Cursor { rest: bytes };
         let mut index = Index::new();

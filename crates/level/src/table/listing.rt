@@ -16,7 +16,10 @@ impl<T: Copy, const N: usize> Table<T, N> {
     pub fn new(blank: T) -> Self
         ensures { λ r. ⌜ listed r ≡ [] ⌝ }
     {
-        Table { entries: [blank; N], count: 0 }
+        Table {
+            entries: [blank; N],
+            count: 0,
+        }
     }
 
     // How many entries there are.
@@ -30,7 +33,11 @@ impl<T: Copy, const N: usize> Table<T, N> {
     pub fn room(&self) -> Result<(), OperandFault>
         ensures { λ r. ⌜ r ≡ cond (ltb (length (listed (now (self .entry)))) N) (Ok tt) (Err TooMany) ⌝ }
     {
-        if self.count < N { Ok(()) } else { Err(OperandFault::TooMany) }
+        if self.count < N {
+            Ok(())
+        } else {
+            Err(OperandFault::TooMany)
+        }
     }
 
     // One more at the end.
@@ -47,6 +54,10 @@ impl<T: Copy, const N: usize> Table<T, N> {
     pub fn get(&self, at: usize) -> Option<T>
         ensures { λ r. ⌜ r ≡ nth (listed (now (self .entry))) at ⌝ }
     {
-        if at < self.count { Some(self.entries[at]) } else { None }
+        if at < self.count {
+            Some(self.entries[at])
+        } else {
+            None
+        }
     }
 }

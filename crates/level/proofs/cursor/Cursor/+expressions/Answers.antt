@@ -16,9 +16,9 @@ pub returns-in-Break-expression : need.returns-in-Break-expression
 returns-in-Break-expression t c =
     let p = err-from-errBy (c .from-residual .result) (c .from-residual .ensures .1) in
     broke _ (read-expr deepest (c .args .numbers)) _ _ (c .args .self .now .rest .now) (exprs-more (c .args .count) (c .args .numbers) (c .args .self .now .rest .now) (omega arith)) refl
-      nothing nothing _ _ (c .in-Break-expression .ensures tt) _ (p .1 ∙ ap Err (p .2))
+    nothing nothing _ _ (c .in-Break-expression .ensures tt) _ (p .1 ∙ ap Err (p .2))
 
 pub returns : need.returns
 returns t c =
     two _ (read-expr deepest (c .args .numbers)) (read-exprs (c .args .count - 1) (c .args .numbers)) _∷_ _ (c .args .self .now .rest .now)
-      (exprs-more (c .args .count) (c .args .numbers) (c .args .self .now .rest .now) (omega arith)) refl _ (c .in-Continue-expression .ensures tt) _ _ (c .expressions .ensures)
+    (exprs-more (c .args .count) (c .args .numbers) (c .args .self .now .rest .now) (omega arith)) refl _ (c .in-Continue-expression .ensures tt) _ _ (c .expressions .ensures)

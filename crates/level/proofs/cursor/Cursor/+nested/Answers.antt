@@ -62,4 +62,3 @@ returns-in-rest t c = stops nothing _ _ _ (expr-none (c .args .depth) (c .args .
 
 pub returns-in-rest·4 : need.returns-in-rest·4
 returns-in-rest·4 t c = stops nothing _ _ _ (expr-none (c .args .depth) (c .args .numbers) (c .args .self .now .rest .now) (omega arith) (λ l u. omega arith)) _ _ refl refl
-

@@ -22,12 +22,12 @@ pub returns-in-Break-statement : need.returns-in-Break-statement
 returns-in-Break-statement t c =
     let p = err-from-errBy (c .from-residual .result) (c .from-residual .ensures .1) in
     broke _ (read-stmt (listed (c .args .signals .now)) (c .args .numbers)) _ _ (c .args .self .now .rest .now) (effect-more (listed (c .args .signals .now)) (c .args .numbers) (c .args .self .now .rest .now) (c .args .left) (omega arith) (omega arith) (omega arith) (omega arith)) refl
-      nothing nothing _ _ (c .in-Break-statement .ensures tt) _ (p .1 ∙ ap Err (p .2))
+    nothing nothing _ _ (c .in-Break-statement .ensures tt) _ (p .1 ∙ ap Err (p .2))
 
 pub returns-in-Continue-statement : need.returns-in-Continue-statement
 returns-in-Continue-statement t c =
     two _ (read-stmt (listed (c .args .signals .now)) (c .args .numbers)) (read-effect (listed (c .args .signals .now)) (c .args .numbers) (c .args .left - 1)) _∷_ _ (c .args .self .now .rest .now)
-      (effect-more (listed (c .args .signals .now)) (c .args .numbers) (c .args .self .now .rest .now) (c .args .left) (omega arith) (omega arith) (omega arith) (omega arith)) refl _ (c .in-Continue-statement .ensures tt) _ _ (c .statements .ensures)
+    (effect-more (listed (c .args .signals .now)) (c .args .numbers) (c .args .self .now .rest .now) (c .args .left) (omega arith) (omega arith) (omega arith) (omega arith)) refl _ (c .in-Continue-statement .ensures tt) _ _ (c .statements .ensures)
 
 pub returns-in-rest : need.returns-in-rest
 returns-in-rest t c = stops nothing _ _ _ (effect-none (listed (c .args .signals .now)) (c .args .numbers) (c .args .self .now .rest .now) (c .args .left) (omega arith) (λ e. omega arith) (λ l u. omega arith)) _ _ refl refl

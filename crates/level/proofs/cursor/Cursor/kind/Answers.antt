@@ -20,4 +20,5 @@ pub returns : need.returns
 returns c =
     record {
       read = kind-made (listed (c .args .signals .now)) (length (listed (c .args .transitions .now))) (length (listed (c .args .kinds .now))) (c .args .self .now .rest .now) (c .in-Continue-shape .shape) _ (c .in-Continue-shape .ensures tt) _ (c .in-Continue-transitions .ensures tt .read);
-      table = kind-tabled (listed (c .args .signals .now)) (length (listed (c .args .transitions .now))) (length (listed (c .args .kinds .now))) (c .args .self .now .rest .now) (c .in-Continue-shape .shape) _ (c .in-Continue-shape .ensures tt) _ (c .in-Continue-transitions .ensures tt .read) (c .args .total) (c .pre .short) _ (c .len-number .ensures) _ _ (c .in-Continue-transitions .ensures tt .table) }
+      table = kind-tabled (listed (c .args .signals .now)) (length (listed (c .args .transitions .now))) (length (listed (c .args .kinds .now))) (c .args .self .now .rest .now) (c .in-Continue-shape .shape) _ (c .in-Continue-shape .ensures tt) _ (c .in-Continue-transitions .ensures tt .read) (c .args .total) (c .pre .short) _ (c .len-number .ensures) _ _ (c .in-Continue-transitions .ensures tt .table);
+    }

@@ -22,9 +22,9 @@ pub returns-in-Break-starts : need.returns-in-Break-starts
 returns-in-Break-starts c =
     let p = err-from-errBy (c .from-residual-in-Break-starts .result) (c .from-residual-in-Break-starts .ensures .1) in
     starts-refused (entry-counts (listed (c .args .kinds .now))) (length (listed (c .args .pieces .now))) (c .args .self .now .rest .now) _ (c .in-Continue-opens .ensures tt) (c .len .result) (c .len .ensures ∙ sym (counts-table (listed (c .args .kinds .now))))
-      (c .in-Continue-kind .kind) (c .in-Continue-kind .ensures tt) (c .numbers-of-numbers .result) (c .numbers-of-numbers .ensures) _ (c .advance .ensures) _ _ (c .in-Break-starts .ensures tt) _ (p .1 ∙ ap Err (p .2))
+    (c .in-Continue-kind .kind) (c .in-Continue-kind .ensures tt) (c .numbers-of-numbers .result) (c .numbers-of-numbers .ensures) _ (c .advance .ensures) _ _ (c .in-Break-starts .ensures tt) _ (p .1 ∙ ap Err (p .2))
 
 pub returns : need.returns
 returns c =
     piece-made (entry-counts (listed (c .args .kinds .now))) (length (listed (c .args .pieces .now))) (c .args .self .now .rest .now) _ (c .in-Continue-opens .ensures tt) (c .len .result) (c .len .ensures ∙ sym (counts-table (listed (c .args .kinds .now))))
-      (c .in-Continue-kind .kind) (c .in-Continue-kind .ensures tt) (c .numbers-of-numbers .result) (c .numbers-of-numbers .ensures) _ (c .advance .ensures) _ _ (c .in-Continue-starts .ensures tt)
+    (c .in-Continue-kind .kind) (c .in-Continue-kind .ensures tt) (c .numbers-of-numbers .result) (c .numbers-of-numbers .ensures) _ (c .advance .ensures) _ _ (c .in-Continue-starts .ensures tt)

@@ -28,7 +28,7 @@ loop-self-again c =
     let s = c .loop-self .inv in
     let t = turn-at (λ n. n) 2 32 most-signals _ (length (s .so-far)) (c .loop-self .self .rest .now) (read-signal (c .loop-self .self .rest .now)) signals-limit (ap length (s .known)) _ _ (c .in-Continue-count .ensures tt) in
     again 0x01 2 most-signals (λ _. read-signal) _ _ (c .loop-self .self .rest .now) s (λ n. n) (eqb-true _ _ (sym (c .loop-self-test .ensures tt))) (λ ss. listed (c .push .last .self) ≡ ss) _ _ t
-      (λ x h m e q. c .push .ensures ∙ rw (s .known, q))
+    (λ x h m e q. c .push .ensures ∙ rw (s .known, q))
 
 pub returns : need.returns
 returns c =

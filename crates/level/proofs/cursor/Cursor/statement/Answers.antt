@@ -24,10 +24,10 @@ returns-in-Break-expression-2 c =
     let p = err-from-errBy (c .from-residual-in-Break-expression-2 .result) (c .from-residual-in-Break-expression-2 .ensures .1) in
     let k = parameters-some (listed (c .args .signals .now)) (at (c .args .self .now .rest .now) 1) (c .in-Some .parameters) (omega arith) (c .in-Some .ensures tt) in
     broke _ (read-expr deepest (c .args .numbers)) _ _ (drop 2 (c .args .self .now .rest .now)) (send-is (listed (c .args .signals .now)) (c .args .numbers) (c .args .self .now .rest .now) (omega arith) (omega arith) (c .in-34 .is) (c .in-Some .parameters) (omega arith) (k .0) (k .1)) (c .advance-in-Some .ensures)
-      nothing nothing _ _ (c .in-Break-expression-2 .ensures tt) _ (p .1 ∙ ap Err (p .2))
+    nothing nothing _ _ (c .in-Break-expression-2 .ensures tt) _ (p .1 ∙ ap Err (p .2))
 
 pub returns-in-Continue-expression-2 : need.returns-in-Continue-expression-2
 returns-in-Continue-expression-2 c =
     let k = parameters-some (listed (c .args .signals .now)) (at (c .args .self .now .rest .now) 1) (c .in-Some .parameters) (omega arith) (c .in-Some .ensures tt) in
     two _ (read-expr deepest (c .args .numbers)) (read-exprs (c .in-Some .parameters) (c .args .numbers)) (send (at (c .args .self .now .rest .now) 1)) _ (drop 2 (c .args .self .now .rest .now)) (send-is (listed (c .args .signals .now)) (c .args .numbers) (c .args .self .now .rest .now) (omega arith) (omega arith) (c .in-34 .is) (c .in-Some .parameters) (omega arith) (k .0) (k .1)) (c .advance-in-Some .ensures)
-      _ (c .in-Continue-expression-2 .ensures tt) _ _ (c .expressions .ensures)
+    _ (c .in-Continue-expression-2 .ensures tt) _ _ (c .expressions .ensures)

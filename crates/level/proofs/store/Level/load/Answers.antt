@@ -23,7 +23,8 @@ returns-in-Ok c =
     record {
       answer = ap Ok (c .len-pieces .ensures ∙ pieces-counted _ _ s) ∙ sym (ap loaded (s .reads));
       after = rw (s .reads);
-      law = level-law }
+      law = level-law;
+    }
 
 pub returns-in-Err : need.returns-in-Err
 returns-in-Err c =
