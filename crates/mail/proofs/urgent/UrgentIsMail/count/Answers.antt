@@ -1,0 +1,11 @@
+use native.Mathlib.Omega.{arith}
+use mathlib.Core.Path.{ap}
+use lib.ListN.{length}
+use Rattle.mail.proofs.UrgentTrays.{urgent-beyond, urgent-count}
+use Rattle.mail.proofs.urgent.UrgentIsMail.count.Needs as need
+
+pub returns-then-piece-gt31 : need.returns-then-piece-gt31
+returns-then-piece-gt31 c = omega (arith, ap length (urgent-beyond (c .args .self .now) (c .args .piece) (c .if-piece-gt31 .taken)))
+
+pub returns : need.returns
+returns c = omega (arith, urgent-count (c .args .self .now) (c .args .piece) (c .if-piece-gt31 .left))
