@@ -1,0 +1,2 @@
+mod Taps
+mod Rows

@@ -1,0 +1,7 @@
+// Games, and the calls on them.
+mod board;
+mod looking;
+mod setting_out;
+mod tapping;
+
+pub use board::Game;
