@@ -1,10 +1,10 @@
 -- What reading gives at each arm of the code's matches.
-use Rattle.std.proofs.Common.{◌≡◌, ℕ, zero, suc, ◌+◌, ◌-◌, ◌<◌, ◌≤◌, true, false, ◌&&◌, ltb, leb, List, [], ◌∷◌, length, drop, Some, None, Option, sym, refl, ap, ◌∙◌, arith, ne_eqb, le-leb}
+use Rattle.std.proofs.Common.{◌≡◌, ℕ, zero, suc, ◌+◌, ◌-◌, ◌<◌, ◌≤◌, false, ◌&&◌, ltb, leb, List, [], ◌∷◌, length, drop, Some, None, Option, refl, ap, ◌∙◌, arith, ne_eqb, le-leb}
 use borrow.Author.Tests.{lt-leb}
 use Rattle.std.proofs.lemmas.Bool.Decides.{nat_tests}
 use Rattle.level.specs.declared.fault.OperandFault.TheVariants.{OutOfRange}
 use Rattle.level.specs.declared.fault.Reason.TheVariants.{Truncated, NotCommand, Operand, TooManyStatements}
-use Rattle.level.specs.Syntax.{Operator, Expr, constant, own_piece, own, other, binary, negation, Stmt, send}
+use Rattle.level.specs.Syntax.{Operator, constant, own_piece, own, other, binary, negation, Stmt, send}
 use Rattle.level.specs.Sound.{deepest, parameters}
 use Rattle.level.specs.Reading.{Read, got, fault, then, room, at, operand, number, known, Form, a_constant, an_own_piece, an_own, an_other, a_binary, a_negation, form, read_form, read_expr, read_exprs, Order, order, read_order, read_stmt, end_or, read_effect}
 use Rattle.level.proofs.Fronts.{inside}

@@ -1,6 +1,6 @@
 -- Statements, effects and transitions: what is read is spelled, and what is spelled is read.
 use Rattle.std.proofs.Common.{◌≡◌, ℕ, zero, suc, ◌+◌, ◌<◌, ◌≤◌, eqb, List, [], ◌∷◌, ◌++◌, length, drop, refl, ap, ◌∙◌, append_assoc, arith, eqb-true}
-use Rattle.level.specs.Syntax.{Expr, Stmt, assign, store, send, Transition}
+use Rattle.level.specs.Syntax.{Stmt, assign, store, send, Transition}
 use Rattle.level.specs.Spelling.{expression, all, statement, effect, receivers, transition}
 use Rattle.level.specs.Sound.{SoundExpr, Each, deepest, most_statements, parameters, SoundStmt, SoundTransition}
 use Rattle.level.specs.Reading.{Read, got, at, operand, read_expr, read_exprs, Order, an_assign, a_store, a_send, orders, order, read_order, read_stmt, end_or, read_effect, read_code, read_received, read_transition}

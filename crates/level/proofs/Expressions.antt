@@ -1,5 +1,5 @@
 -- Expressions: what is read is spelled, and what is spelled is read.
-use Rattle.std.proofs.Common.{◌≡◌, ℕ, zero, suc, ◌<◌, ◌≤◌, List, [], ◌∷◌, ◌++◌, length, drop, Some, sym, refl, ap, ◌∙◌, append_assoc, arith, w32, of_z}
+use Rattle.std.proofs.Common.{◌≡◌, ℕ, zero, suc, ◌≤◌, List, [], ◌∷◌, ◌++◌, length, drop, Some, sym, refl, ap, ◌∙◌, append_assoc, arith, w32, of_z}
 use Rattle.level.specs.Syntax.{Operator, sum, difference, product, quotient, remainder, equal, less, and, or, Expr, constant, own_piece, own, other, binary, negation}
 use Rattle.level.specs.Spelling.{command, expression, all}
 use Rattle.level.specs.Sound.{SoundExpr, Each, deepest}

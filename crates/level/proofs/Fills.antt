@@ -1,11 +1,11 @@
 -- Loops that fill a table: what was to be read is what was read so far and then what is read from here.
-use Rattle.std.proofs.Common.{◌≡◌, ℕ, zero, suc, ◌+◌, ◌-◌, ◌<◌, ◌≤◌, Bool, true, false, eqb, ltb, leb, List, [], ◌∷◌, ◌++◌, length, Ok, Err, Result, sym, refl, ap, ◌∙◌, subst, arith, length-append, ltb-true, le-ltb, lt-ltb, eq-eqb, ne_eqb, le-leb, leb-true}
+use Rattle.std.proofs.Common.{◌≡◌, ℕ, zero, suc, ◌+◌, ◌-◌, ◌<◌, ◌≤◌, Bool, true, false, ltb, leb, List, [], ◌∷◌, ◌++◌, length, Ok, Err, Result, refl, ap, ◌∙◌, subst, arith, length-append, ltb-true, le-ltb, lt-ltb, eq-eqb, ne_eqb, le-leb, leb-true}
 use Rattle.std.proofs.lemmas.Bool.Decides.{nat_tests}
 use Rattle.level.specs.declared.fault.OperandFault.TheVariants.{TooMany}
 use Rattle.level.specs.declared.fault.Reason.{Reason}
 use Rattle.level.specs.declared.fault.Reason.TheVariants.{Truncated, Operand}
 use Rattle.level.specs.Reading.{Read, got, bad, fault, then, when, room, at, many}
-use Rattle.level.specs.Readers.{turn, answered, remains, Gives, Holds}
+use Rattle.level.specs.Readers.{turn, Gives, Holds}
 use Rattle.level.proofs.Steps.{Reads}
 use Rattle.level.proofs.Turns.{went, hands_on}
 

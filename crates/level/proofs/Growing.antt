@@ -6,7 +6,7 @@ use Rattle.level.specs.declared.entry.TransitionEntry.{TransitionEntry}
 use Rattle.level.specs.declared.fault.Reason.{Reason}
 use Rattle.level.specs.Entries.{kind_entry, transition_entry}
 use Rattle.level.specs.Law.{Bytes}
-use Rattle.level.specs.Places.{Placed, placed_at, in_kind, in_kinds}
+use Rattle.level.specs.Places.{placed_at, in_kind, in_kinds}
 use Rattle.level.specs.Reading.{Read, got, at, read_transition, read_transitions, read_kind, read_kinds}
 use Rattle.level.specs.Readers.{Gives, Holds, nothing, turn}
 use Rattle.level.specs.Sound.{Each, SoundTransition, most_kinds, count}

@@ -1,15 +1,14 @@
 -- The operands of a transition, as the code checks them one after another.
-use Rattle.std.proofs.Common.{◌≡◌, ℕ, ◌+◌, ◌<◌, ◌≤◌, Bool, true, false, cond, ◌&&◌, ltb, leb, List, [], ◌∷◌, ◌++◌, length, drop, Some, None, Ok, Err, Option, Result, sym, refl, ap, ◌∙◌, arith}
+use Rattle.std.proofs.Common.{◌≡◌, ℕ, ◌+◌, ◌<◌, Bool, true, false, cond, ◌&&◌, ltb, leb, List, ◌++◌, length, drop, Some, None, Ok, Err, Option, Result, sym, refl, ◌∙◌, arith}
 use Rattle.std.proofs.lemmas.Bool.Decides.{nat_tests}
-use Rattle.level.specs.declared.entry.Head.{Head as HeadEntry}
 use Rattle.level.specs.declared.fault.OperandFault.{OperandFault}
 use Rattle.level.specs.declared.fault.OperandFault.TheVariants.{OutOfRange}
 use Rattle.level.specs.declared.fault.Reason.TheVariants.{Operand}
-use Rattle.level.specs.Reading.{Read, got, fault, when, at, operand, receiver, received}
-use Rattle.level.specs.Readers.{Gives, Head, head_at, receivers_at, read_head, head_entry}
+use Rattle.level.specs.Reading.{Read, fault, when, at, operand, receiver, received}
+use Rattle.level.specs.Readers.{Gives, head_at, receivers_at, read_head, head_entry}
 use Rattle.level.specs.Sound.{parameters}
 use Rattle.level.specs.Tables.{nth}
-use Rattle.level.proofs.Turns.{stops, done}
+use Rattle.level.proofs.Turns.{done}
 
 module _ (bs : List ℕ) (k least limit : ℕ) where
   -- what checking an operand promises, of the value `w` that is made of it

@@ -1,5 +1,5 @@
 -- The limits of a level, as the code's tables have them.
-use Rattle.std.proofs.Common.{◌≡◌, ℕ, refl}
+use Rattle.std.proofs.Common.{◌≡◌, refl}
 use Rattle.level.specs.Sound.{most_signals, most_kinds, most_transitions, most_pieces, most_bytes}
 
 pub signals_limit : 32 ≡ most_signals

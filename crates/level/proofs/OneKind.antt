@@ -1,5 +1,5 @@
 -- One kind, as the code reads it: its operands, its transitions.
-use Rattle.std.proofs.Common.{◌≡◌, ℕ, ◌+◌, ◌-◌, ◌≤◌, List, [], ◌∷◌, ◌++◌, map, length, drop, Ok, Err, Result, sym, refl, ap, ◌∙◌, subst, arith, length-drop}
+use Rattle.std.proofs.Common.{◌≡◌, ℕ, ◌+◌, ◌-◌, ◌≤◌, List, ◌++◌, map, length, drop, Ok, Err, Result, sym, refl, ap, ◌∙◌, subst, arith, length-drop}
 use Rattle.level.specs.declared.entry.KindEntry.{KindEntry}
 use Rattle.level.specs.declared.entry.TransitionEntry.{TransitionEntry}
 use Rattle.level.specs.declared.fault.Reason.{Reason}
@@ -7,7 +7,6 @@ use Rattle.level.specs.Entries.{kind_entry, transition_entry}
 use Rattle.level.specs.Places.{in_kind}
 use Rattle.level.specs.Reading.{Read, got, then, at, operand, read_transitions, read_kind}
 use Rattle.level.specs.Readers.{Gives, Holds, nothing, turn, read_shape}
-use Rattle.level.specs.Sound.{most_transitions}
 use Rattle.level.specs.Syntax.{Transition, Kind}
 use Rattle.level.proofs.Fills.{turn_got, turn_then}
 use Rattle.level.proofs.Limits.{transitions_limit}

@@ -1,14 +1,13 @@
 -- One piece, as the code reads it, and the loop over the pieces.
-use Rattle.std.proofs.Common.{◌≡◌, ℕ, ◌+◌, ◌<◌, ◌≤◌, List, [], ◌∷◌, ◌++◌, map, length, get_or, drop, ℤ, Ok, Err, Result, sym, refl, ap, ◌∙◌, subst, arith, length-append, length-drop}
+use Rattle.std.proofs.Common.{◌≡◌, ℕ, ◌+◌, ◌<◌, ◌≤◌, List, [], ◌∷◌, ◌++◌, map, length, get_or, drop, ℤ, Ok, Err, Result, sym, refl, ap, ◌∙◌, arith, length-append, length-drop}
 use Rattle.std.proofs.lemmas.List.{length-map, map-append}
-use Rattle.level.specs.declared.entry.KindEntry.{KindEntry}
 use Rattle.level.specs.declared.entry.PieceEntry.{PieceEntry}
 use Rattle.level.specs.declared.fault.OperandFault.{OperandFault}
 use Rattle.level.specs.declared.fault.Reason.{Reason}
 use Rattle.level.specs.declared.fault.Reason.TheVariants.{Operand}
 use Rattle.level.specs.Entries.{kind_entry, piece_entry, starting}
 use Rattle.level.specs.Law.{Bytes}
-use Rattle.level.specs.Reading.{Read, got, fault, then, at, read_starts, read_piece, read_pieces, read_end}
+use Rattle.level.specs.Reading.{Read, got, then, at, read_starts, read_piece, read_pieces, read_end}
 use Rattle.level.specs.Readers.{Gives, nothing, turn, opened, entry_counts}
 use Rattle.level.specs.Sound.{most_pieces, counts}
 use Rattle.level.specs.Spelling.{piece}

@@ -1,6 +1,6 @@
 -- The sections of a level: what is read is spelled, and what is spelled is read.
-use Rattle.std.proofs.Common.{◌≡◌, ℕ, zero, suc, ◌+◌, ◌-◌, ◌<◌, ◌≤◌, true, false, eqb, leb, List, [], ◌∷◌, ◌++◌, length, get_or, drop, sym, refl, ap, ◌∙◌, subst, append_assoc, append-nil, arith, length-append, w32, of_z, eq-eqb, eqb-true, le-leb}
-use Rattle.level.specs.Syntax.{Transition, Kind, Start, Piece, Level}
+use Rattle.std.proofs.Common.{◌≡◌, ℕ, zero, suc, ◌+◌, ◌-◌, ◌<◌, ◌≤◌, true, false, eqb, List, [], ◌∷◌, ◌++◌, length, get_or, drop, sym, refl, ap, ◌∙◌, subst, append_assoc, append-nil, arith, length-append, w32, of_z, eq-eqb, eqb-true, le-leb}
+use Rattle.level.specs.Syntax.{Transition, Kind, Start, Piece}
 use Rattle.level.specs.Spelling.{all, expression, effect, signal, transition, kind, start, piece, receivers}
 use Rattle.level.specs.Sound.{Each, most_transitions, parameters, counts, numbers_of, count, SoundTransition, SoundKind, SoundStart, SoundPiece}
 use Rattle.level.specs.Reading.{Read, got, at, many, read_transition, read_transitions, read_signal, read_kind, read_start, read_starts, read_piece}

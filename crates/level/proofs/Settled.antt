@@ -1,14 +1,13 @@
 -- A refusal is settled by the bytes up to it: more bytes do not change it.
-use Rattle.std.proofs.Common.{◌≡◌, ℕ, zero, suc, ◌+◌, ◌-◌, ◌<◌, ◌≤◌, Bool, true, false, ◌&&◌, eqb, ltb, leb, ◌⊎◌, List, [], ◌∷◌, ◌++◌, length, get_or, drop, Some, None, Ok, Err, Option, sym, refl, ap, ◌∙◌, subst, inl, inr, arith, length-append, length-drop, ne_eqb, le-leb, leb-true}
+use Rattle.std.proofs.Common.{◌≡◌, ℕ, zero, suc, ◌+◌, ◌-◌, ◌<◌, ◌≤◌, Bool, true, false, ◌&&◌, eqb, ltb, leb, ◌⊎◌, List, [], ◌∷◌, ◌++◌, length, get_or, drop, Some, None, Err, Option, sym, refl, ap, ◌∙◌, inl, inr, arith, length-append, length-drop, ne_eqb, le-leb, leb-true}
 use Rattle.std.proofs.lemmas.List.{get_or_append_left, drop-append-le}
-use Rattle.level.specs.declared.fault.OperandFault.TheVariants.{OutOfRange, TooMany}
-use Rattle.level.specs.declared.fault.Reason.{Reason}
-use Rattle.level.specs.declared.fault.Reason.TheVariants.{Truncated, NotCommand, Operand, TooDeep, TooManyStatements}
+use Rattle.level.specs.declared.fault.OperandFault.TheVariants.{OutOfRange}
+use Rattle.level.specs.declared.fault.Reason.TheVariants.{Truncated, NotCommand, Operand}
 use Rattle.level.specs.declared.fault.LevelFault.{LevelFault}
-use Rattle.level.specs.Syntax.{Expr, other, binary, negation, Stmt, assign, store, send, Transition, Kind, Start, Piece, Level}
+use Rattle.level.specs.Syntax.{Expr, other, binary, negation, Stmt, assign, store, send, Transition, Start, Level}
 use Rattle.level.specs.Sound.{deepest, most_statements, most_signals, most_kinds, most_transitions, most_pieces, most_bytes, parameters, counts, count}
 use Rattle.level.specs.Faults.{number, number_of_reason}
-use Rattle.level.specs.Reading.{Fault, Read, got, bad, fault, then, when, room, at, operand, known, Form, a_constant, an_own_piece, an_own, an_other, a_binary, a_negation, form, read_form, read_expr, read_exprs, Order, an_assign, a_store, a_send, order, read_order, read_stmt, end_or, read_effect, receiver, read_code, read_received, read_transition, many, read_signal, read_signals, read_transitions, read_kind, read_kinds, read_start, read_starts, read_piece, read_pieces, read_end, read_sections, read_level, verdict, read}
+use Rattle.level.specs.Reading.{Fault, Read, got, bad, fault, then, when, room, at, operand, known, Form, a_constant, an_own_piece, an_own, an_other, a_binary, a_negation, form, read_form, read_expr, read_exprs, Order, an_assign, a_store, a_send, order, read_order, read_stmt, end_or, read_effect, receiver, read_code, read_transition, many, read_signal, read_signals, read_transitions, read_kind, read_kinds, read_start, read_starts, read_piece, read_pieces, read_end, read_sections, read_level, verdict, read}
 use Rattle.level.proofs.Steps.{has1}
 
 at_front : (bs cs : List ℕ) (k : ℕ) → k < length bs → at (bs ++ cs) k ≡ at bs k

@@ -5,7 +5,7 @@ use Rattle.level.specs.Syntax.{Transition, Kind, Level}
 use Rattle.level.specs.Spelling.{all, expression, effect, signal, transition, kind, piece, level, size}
 use Rattle.level.specs.Sound.{Each, deepest, most_statements, SoundTransition, SoundKind, Sound}
 use Rattle.level.specs.Reading.{got, read_expr, read_effect}
-use Rattle.level.specs.Places.{Placed, in_kind, in_kinds, placed, Stands}
+use Rattle.level.specs.Places.{in_kind, in_kinds, placed, Stands}
 use Rattle.level.proofs.Expressions.{expr_read}
 use Rattle.level.proofs.Effects.{receivers_two, effect_read}
 

@@ -1,5 +1,5 @@
 -- What is read is what the bytes spell: of each way in which readers are put together.
-use Rattle.std.proofs.Common.{◌≡◌, ℕ, zero, suc, ◌<◌, ◌≤◌, Bool, true, false, cond, ◌&&◌, eqb, ltb, leb, List, [], ◌∷◌, ◌++◌, length, Some, None, Option, sym, refl, ap, ◌∙◌, subst, arith, eqb-true, le-leb, leb-true}
+use Rattle.std.proofs.Common.{◌≡◌, ℕ, suc, ◌<◌, ◌≤◌, Bool, true, false, cond, ◌&&◌, eqb, ltb, leb, List, [], ◌∷◌, ◌++◌, length, Some, None, Option, sym, refl, ◌∙◌, subst, arith, eqb-true, le-leb, leb-true}
 use Rattle.level.specs.Reading.{Fault, Read, got, bad, then, when, room, at, operand, Entry, look, known}
 use Rattle.level.specs.Law.{Bytes}
 use Rattle.level.proofs.Fronts.{bytes_right, inside_true}

@@ -1,5 +1,5 @@
 -- One transition, as the code reads it: its operands, its guard, its effect.
-use Rattle.std.proofs.Common.{◌≡◌, ℕ, ◌+◌, ◌-◌, ◌<◌, ◌≤◌, Bool, true, false, ◌&&◌, ltb, leb, List, [], ◌∷◌, ◌++◌, length, drop, Ok, Err, Result, sym, refl, ap, ◌∙◌, subst, arith, length-append, length-drop, lt-ltb}
+use Rattle.std.proofs.Common.{◌≡◌, ℕ, ◌+◌, ◌-◌, ◌<◌, ◌≤◌, Bool, true, false, ◌&&◌, ltb, leb, List, length, drop, Ok, Err, Result, sym, refl, ap, ◌∙◌, subst, arith, length-append, length-drop, lt-ltb}
 use Rattle.level.specs.declared.entry.Head.{Head as HeadEntry}
 use Rattle.level.specs.declared.entry.TransitionEntry.{TransitionEntry}
 use Rattle.level.specs.declared.fault.OperandFault.TheVariants.{OutOfRange}

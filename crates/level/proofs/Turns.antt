@@ -1,5 +1,5 @@
 -- How the promises of readers are put together, as the code calls them one after another.
-use Rattle.std.proofs.Common.{◌≡◌, ℕ, List, [], Ok, Err, Result, sym, refl, ap, ◌∙◌, subst, arith}
+use Rattle.std.proofs.Common.{◌≡◌, ℕ, List, Ok, Err, Result, sym, refl, ap, ◌∙◌, subst, arith}
 use Rattle.level.specs.declared.fault.Reason.{Reason}
 use Rattle.level.specs.Reading.{Read, got, bad, fault, then}
 use Rattle.level.specs.Readers.{answered, remains, nothing, Gives}

@@ -1,12 +1,11 @@
 -- Whole levels: what is read is spelled, and what is spelled is read.
-use Rattle.std.proofs.Common.{◌≡◌, ℕ, suc, ◌≤◌, Bool, true, false, eqb, leb, List, [], ◌∷◌, ◌++◌, length, drop, Ok, Err, sym, refl, ap, ◌∙◌, arith, eqb-true, le-leb, leb-true}
+use Rattle.std.proofs.Common.{◌≡◌, ℕ, ◌≤◌, Bool, true, false, eqb, leb, List, [], ◌∷◌, ◌++◌, length, Ok, refl, ap, arith, eqb-true, le-leb, leb-true}
 use Rattle.level.specs.Syntax.{Kind, Piece, Level}
 use Rattle.level.specs.Spelling.{all, signal, kind, piece, level}
 use Rattle.level.specs.Sound.{Each, Sound, SoundPiece, most_signals, most_kinds, most_pieces, most_bytes, counts}
-use Rattle.level.specs.Reading.{Read, got, bad, then, when, at, read_signals, read_kinds, read_pieces, read_end, read_sections, read_level, verdict, read}
+use Rattle.level.specs.Reading.{Read, got, bad, then, when, at, read_signals, read_kinds, read_pieces, read_end, read_level, verdict, read}
 use Rattle.level.specs.Law.{Bytes}
-use Rattle.level.proofs.Fronts.{front}
-use Rattle.level.proofs.Steps.{Reads, reads_on}
+use Rattle.level.proofs.Steps.{reads_on}
 use Rattle.level.proofs.Sections.{SoundKinds, signals_reads, signals_read, kinds_reads, kinds_read, pieces_reads, pieces_read}
 
 -- a level that was read is sound, and its spelling was all there was

@@ -3,7 +3,7 @@ use Rattle.std.specs.Prelude.{ℕ, List, [], ◌∷◌, map, replicate, ℤ, pos
 use Rattle.level.specs.declared.entry.KindEntry.{KindEntry}
 use Rattle.level.specs.declared.entry.TransitionEntry.{TransitionEntry}
 use Rattle.level.specs.declared.entry.PieceEntry.{PieceEntry}
-use Rattle.level.specs.Syntax.{Transition, Kind, Start, Piece, Level}
+use Rattle.level.specs.Syntax.{Kind, Start, Piece, Level}
 use Rattle.level.specs.Sound.{counts}
 use Rattle.level.specs.Places.{Placed, effect_place, placed}
 use Rattle.level.specs.Tables.{nth}

@@ -1,7 +1,5 @@
 -- The number and the byte of a refusal.
 use Rattle.std.specs.Prelude.{ℕ}
-use Rattle.level.specs.declared.fault.OperandFault.{OperandFault}
-use Rattle.level.specs.declared.fault.OperandFault.TheVariants.{OutOfRange, TooMany}
 use Rattle.level.specs.declared.fault.Reason.{Reason}
 use Rattle.level.specs.declared.fault.Reason.TheVariants.{TooLong, Truncated, NotCommand, Operand, TooDeep, TooManyStatements}
 use Rattle.level.specs.declared.fault.LevelFault.{LevelFault}

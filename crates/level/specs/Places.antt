@@ -1,9 +1,9 @@
 -- Where the code of each transition stands in the bytes of its level.
 use Rattle.std.specs.Prelude.{◌≡◌, ℕ, ◌+◌, List, [], ◌∷◌, ◌++◌, length, drop}
 use Rattle.level.specs.Syntax.{Transition, Kind, Level}
-use Rattle.level.specs.Spelling.{all, signal, transition, kind, level, size}
-use Rattle.level.specs.Sound.{Each, Sound, deepest, most_statements}
-use Rattle.level.specs.Reading.{Read, got, read_expr, read_effect}
+use Rattle.level.specs.Spelling.{all, signal, transition, kind, size}
+use Rattle.level.specs.Sound.{deepest, most_statements}
+use Rattle.level.specs.Reading.{got, read_expr, read_effect}
 
 -- a transition with the number of its kind, how many numbers that kind has, and the place of its guard
 pub record Placed : Type 0 where

@@ -1,4 +1,6 @@
 // Levels: the bytes that a designer writes, read once and held with an index of what stands where.
+#![tactic(auto)]
+
 mod cursor;
 pub mod entry;
 pub mod fault;

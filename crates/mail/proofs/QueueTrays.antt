@@ -3,7 +3,7 @@ use Rattle.std.proofs.Common.{◌≡◌, ℕ, zero, suc, ◌+◌, ◌-◌, ◌*�
 use mathlib.Core.List.{tail}
 use mathlib.Core.Path.{fun_ext}
 use borrow.Rule.Slice.PartMut.{put_mid}
-use Rattle.std.proofs.lemmas.List.{drop_at, drop_more, drop-take, take-append-le, take-take, length-take-le, get_or-set_same, get_or-set_other, get_or_past}
+use Rattle.std.proofs.lemmas.List.{drop_at, drop_more, drop-take, take-append-le, take-take, length-take-le, get_or-set_same, get_or-set_other}
 use Rattle.std.proofs.lemmas.Slice.{take-put_mid_below, drop-put_mid}
 use Rattle.std.proofs.lemmas.Bool.{cases_lt, cases_eq}
 use Rattle.std.specs.List.{insert}
@@ -12,11 +12,8 @@ use Rattle.mail.specs.declared.queue.QueueMail.{QueueMail}
 use Rattle.mail.specs.declared.queue.Table.{Table}
 use Rattle.mail.specs.Queue.{last_place, queue_trays}
 use Rattle.mail.specs.Trays.{no_messages, with_tray, front, put_answer, put_trays, take_answer, take_trays}
+use Rattle.mail.specs.Laws.{none_counted, table_beyond, table_bounded}
 use Rattle.mail.proofs.Outcomes.{front_take, has_tray, one_changed, put_accepted, take_accepted}
-
-none_counted : (t : Table) (p : ℕ) → get_or t.counts p 0 ≡ 0 → queue_trays t p ≡ []
-unfolding queue_trays
-none_counted t p e = rw e
 
 -- the same count everywhere
 copies : (n k p : ℕ) → get_or (replicate n k) p 0 ≤ k
@@ -48,11 +45,10 @@ part_kept xs ys a k b n e h (inr past) = ap (take n) (drop-put_mid a k xs ys b p
 
 module _ (s : QueueMail) (p : ℕ) where
   pub queue_beyond : 31 < p → queue_trays s.table p ≡ []
-  queue_beyond h = none_counted s.table p (get_or_past s.table.counts p 0 (omega (arith, s.counts)))
+  queue_beyond = table_beyond s.table s.counts p
 
   pub queue_bounded : length (queue_trays s.table p) ≤ 4
-  unfolding queue_trays
-  queue_bounded = let b = s.few p in simp length-take (omega arith)
+  queue_bounded = table_bounded s.table s.few p
 
   module _ (here : p ≤ 31) where
     pub queue_count : length (queue_trays s.table p) ≡ get_or s.table.counts p 0

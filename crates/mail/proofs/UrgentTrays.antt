@@ -1,5 +1,5 @@
 -- The trays of the urgent mail, read and written in its memory, and its rule of placing.
-use Rattle.std.proofs.Common.{◌≡◌, ℕ, suc, ◌+◌, ◌<◌, ◌≤◌, cond, ltb, List, [], ◌∷◌, length, get_or, take, drop, set, replicate, Some, Ok, sym, ap, ◌∙◌, ⊎_elim, arith}
+use Rattle.std.proofs.Common.{◌≡◌, ℕ, suc, ◌+◌, ◌<◌, ◌≤◌, cond, ltb, List, [], length, get_or, take, drop, set, replicate, Some, Ok, sym, ap, ◌∙◌, ⊎_elim, arith}
 use mathlib.Core.List.{tail}
 use mathlib.Core.Path.{fun_ext}
 use Rattle.std.proofs.lemmas.List.{drop_all, drop_more, length-take-le, get_or-set_same, get_or-set_other, get_or_past, get_or-replicate}
@@ -10,11 +10,8 @@ use Rattle.mail.specs.declared.tray.Tray.{Tray}
 use Rattle.mail.specs.declared.urgent.UrgentMail.{UrgentMail}
 use Rattle.mail.specs.Trays.{no_messages, with_tray, front, put_answer, put_trays, take_answer, take_trays}
 use Rattle.mail.specs.Urgent.{urgent_place, urgent_trays, waiting, no_tray, Sound}
+use Rattle.mail.specs.Laws.{list_beyond, list_bounded}
 use Rattle.mail.proofs.Outcomes.{front_take, has_tray, one_changed, put_accepted, take_accepted}
-
-pub urgent_within : (l : List Message) (m : Message) → urgent_place l m ≤ length l
-urgent_within [] m = omega arith
-urgent_within (x ∷ l) m = let h = urgent_within l m in grind arith
 
 -- the rule, one message further
 pub place_more :
@@ -47,8 +44,7 @@ length_waiting t h = length-take-le t.count t.messages (omega (arith, h.few, h.s
 
 module _ (s : UrgentMail) (p : ℕ) where
   pub urgent_beyond : 31 < p → urgent_trays s.trays p ≡ []
-  unfolding urgent_trays
-  urgent_beyond h = ap waiting (get_or_past s.trays p no_tray (omega (arith, s.all)))
+  urgent_beyond = list_beyond s.trays s.all p
 
   module _ (here : p ≤ 31) where
     pub urgent_sound : Sound (get_or s.trays p no_tray)
@@ -87,11 +83,7 @@ module _ (s : UrgentMail) (p : ℕ) where
         take_accepted (urgent_trays s.trays) p _ m here first (urgent_written t ∙ ap (with_tray (urgent_trays s.trays) p) took)
 
   pub urgent_bounded : length (urgent_trays s.trays p) ≤ 6
-  urgent_bounded =
-      ⊎_elim
-      (λ (h : 31 < p). omega (arith, ap length (urgent_beyond h)))
-      (λ (h : p ≤ 31). omega (arith, urgent_count h, s.few p h))
-      (cases_lt 31 p)
+  urgent_bounded = list_bounded s.trays s.all s.few p
 
   -- looking, where n messages were counted
   module _ (n : ℕ) (counted : n ≡ length (urgent_trays s.trays p)) (some : n ≡ 0 → ⊥) where

@@ -5,3 +5,4 @@ pub mod Trays
 pub mod Queue
 pub mod Urgent
 pub mod TwoInOneOut
+pub mod Laws

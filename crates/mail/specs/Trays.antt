@@ -34,7 +34,7 @@ putting limit t p refused accepted =
 abbrev pub put_answer : ℕ → Trays → ℕ → Result (Unit {0}) MailFault
 put_answer limit t p = putting limit t p Err (Ok tt)
 
--- accepted, the message stands at its place among the others, which keep their order: `inserted l i m` is the first i
+-- accepted, the message stands at its place among the others, which keep their order: `insert l i m` is the first i
 -- messages of l, then m, then the others of l
 abbrev pub put_trays : ℕ → (List Message → Message → ℕ) → Trays → ℕ → Message → Trays
 put_trays limit place t p m =

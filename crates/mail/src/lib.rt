@@ -2,6 +2,8 @@
 //
 // A piece is an object of the game, its tray the queue of messages that wait for it, and a mail holds the trays of all
 // the pieces, 0 to 31. Mails differ in their limit and in where they put a message, and in nothing else.
+#![tactic(auto)]
+
 ghost use Rattle.std.specs.Prelude.{◌≡◌, ℕ, ◌<◌, ◌≤◌, List, [], length};
 ghost use Rattle.mail.specs.declared.message.Message.{Message};
 ghost use Rattle.mail.specs.Trays.{front, no_messages, put_answer, put_trays, take_answer, take_trays};

@@ -3,7 +3,8 @@ ghost use Rattle.std.specs.Prelude.{◌≡◌, ℕ, ◌≤◌, length, replicate
 ghost use Rattle.mail.specs.Trays.{no_messages};
 ghost use Rattle.mail.specs.Messages.{blank};
 ghost use Rattle.mail.specs.Queue.{last_place, queue_trays};
-ghost use Rattle.std.proofs.Common.{rules, arith};
+ghost use Rattle.std.proofs.Common.{rules};
+ghost use Rattle.mail.specs.Laws.{table_beyond, table_bounded};
 
 use crate::Mail;
 use crate::fault::MailFault;
@@ -49,13 +50,13 @@ impl Mail for QueueMail {
 
     ghost limit = { 4 };
 
-    ghost range = { first_of (Prim.search rules, Prim.grind (arith, Self.row.coded.inj)) };
+    ghost range = { Prim.search rules };
 
-    ghost within = { first_of (Prim.search rules, Prim.grind (arith, Self.row.coded.inj)) };
+    ghost within = { Prim.search rules };
 
-    ghost bounded = { first_of (Prim.search rules, Prim.grind (arith, Self.row.coded.inj)) };
+    ghost bounded = { λ s p. table_bounded s.table s.few p };
 
-    ghost beyond = { first_of (Prim.search rules, Prim.grind (arith, Self.row.coded.inj)) };
+    ghost beyond = { λ s p h. table_beyond s.table s.counts p h };
 
     fn full_length() -> usize {
         Self::LIMIT.value

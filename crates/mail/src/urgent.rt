@@ -2,7 +2,8 @@
 ghost use Rattle.std.specs.Prelude.{◌≡◌, ℕ, ◌<◌, ◌≤◌, length, slice_index_or};
 ghost use Rattle.mail.specs.Trays.{no_messages};
 ghost use Rattle.mail.specs.Urgent.{no_tray, urgent_place, urgent_trays};
-ghost use Rattle.std.proofs.Common.{rules, arith};
+ghost use Rattle.std.proofs.Common.{rules};
+ghost use Rattle.mail.specs.Laws.{list_beyond, list_bounded, urgent_within};
 
 use crate::Mail;
 use crate::fault::MailFault;
@@ -37,13 +38,13 @@ impl Mail for UrgentMail {
 
     ghost limit = { 6 };
 
-    ghost range = { first_of (Prim.search rules, Prim.grind (arith, Self.row.coded.inj)) };
+    ghost range = { Prim.search rules };
 
-    ghost within = { first_of (Prim.search rules, Prim.grind (arith, Self.row.coded.inj)) };
+    ghost within = { urgent_within };
 
-    ghost bounded = { first_of (Prim.search rules, Prim.grind (arith, Self.row.coded.inj)) };
+    ghost bounded = { λ s p. list_bounded s.trays s.all s.few p };
 
-    ghost beyond = { first_of (Prim.search rules, Prim.grind (arith, Self.row.coded.inj)) };
+    ghost beyond = { λ s p h. list_beyond s.trays s.all p h };
 
     fn full_length() -> usize {
         Self::LIMIT.value

@@ -1,4 +1,4 @@
-use Rattle.std.proofs.Common.{◌-◌, drop, Err, refl, ap, ◌∙◌, arith, rules}
+use Rattle.std.proofs.Common.{◌-◌, drop, Err, refl, ap, ◌∙◌, arith}
 use Rattle.std.proofs.lemmas.Result.{err_from_is_err_and}
 use Rattle.level.specs.Reading.{read_expr}
 use Rattle.level.specs.Readers.{nothing}
@@ -38,22 +38,22 @@ pub returns-in-19-3 : goal.returns-in-19-3
 returns-in-19-3 t c =
     tail _ (read_expr (c.args.depth - 1) c.args.numbers) _ _ _ (other_is c.args.depth c.args.numbers c.args.self.now.rest.now (omega arith) (omega arith) c.in-19.is (omega arith) (omega arith)) c.advance-in-19-3.ensures _ _ c.nested.ensures
 
-pub returns-in-err-nested : goal.returns-in-err-nested
-returns-in-err-nested t c =
-    let p = err_from_is_err_and c.from-residual.result c.from-residual.ensures.1 in
+pub returns-in_err-nested-in-20-to-28 : goal.returns-in_err-nested-in-20-to-28
+returns-in_err-nested-in-20-to-28 t c =
+    let p = err_from_is_err_and c.from_residual.result c.from_residual.ensures.1 in
     let b = binary_is c.args.depth c.args.numbers c.args.self.now.rest.now (omega arith) (omega arith) (omega (arith, c.in-20-to-28)) (omega (arith, c.in-20-to-28)) in
-    broke _ (read_expr (c.args.depth - 1) c.args.numbers) _ _ (drop 1 c.args.self.now.rest.now) b.1 c.advance-in-20-to-28.ensures nothing nothing _ _ c.in-err-nested.ensures _ (p.1 ∙ ap Err p.2)
+    broke _ (read_expr (c.args.depth - 1) c.args.numbers) _ _ (drop 1 c.args.self.now.rest.now) b.1 c.advance-in-20-to-28.ensures nothing nothing _ _ c.in_err-nested-in-20-to-28.ensures _ (p.1 ∙ ap Err p.2)
 
-pub returns-in-ok-nested : goal.returns-in-ok-nested
-returns-in-ok-nested t c =
+pub returns-in_ok-nested-in-20-to-28 : goal.returns-in_ok-nested-in-20-to-28
+returns-in_ok-nested-in-20-to-28 t c =
     let b = binary_is c.args.depth c.args.numbers c.args.self.now.rest.now (omega arith) (omega arith) (omega (arith, c.in-20-to-28)) (omega (arith, c.in-20-to-28)) in
-    two _ (read_expr (c.args.depth - 1) c.args.numbers) (read_expr (c.args.depth - 1) c.args.numbers) (binary b.0) _ (drop 1 c.args.self.now.rest.now) b.1 c.advance-in-20-to-28.ensures _ c.in-ok-nested.ensures _ _ c.nested-in-20-to-28-2.ensures
+    two _ (read_expr (c.args.depth - 1) c.args.numbers) (read_expr (c.args.depth - 1) c.args.numbers) (binary b.0) _ (drop 1 c.args.self.now.rest.now) b.1 c.advance-in-20-to-28.ensures _ c.in_ok-nested-in-20-to-28.ensures _ _ c.nested-in-20-to-28-2.ensures
 
 pub returns-in-29 : goal.returns-in-29
 returns-in-29 t c = tail _ (read_expr (c.args.depth - 1) c.args.numbers) _ _ _ (negation_is c.args.depth c.args.numbers c.args.self.now.rest.now (omega arith) (omega arith) c.in-29.is) c.advance-in-29.ensures _ _ c.nested-in-29.ensures
 
-pub returns-in-default : goal.returns-in-default
-returns-in-default t c = stops nothing _ _ _ (expr_none c.args.depth c.args.numbers c.args.self.now.rest.now (omega arith) (λ l u. omega arith)) _ _ refl refl
+pub returns-in_default : goal.returns-in_default
+returns-in_default t c = stops nothing _ _ _ (expr_none c.args.depth c.args.numbers c.args.self.now.rest.now (omega arith) (λ l u. omega arith)) _ _ refl refl
 
-pub returns-in-default·4 : goal.returns-in-default·4
-returns-in-default·4 t c = stops nothing _ _ _ (expr_none c.args.depth c.args.numbers c.args.self.now.rest.now (omega arith) (λ l u. omega arith)) _ _ refl refl
+pub returns-in_default-2 : goal.returns-in_default-2
+returns-in_default-2 t c = stops nothing _ _ _ (expr_none c.args.depth c.args.numbers c.args.self.now.rest.now (omega arith) (λ l u. omega arith)) _ _ refl refl

@@ -1,4 +1,4 @@
-use Rattle.std.proofs.Common.{◌-◌, ◌∷◌, Err, refl, ap, ◌∙◌, arith, rules}
+use Rattle.std.proofs.Common.{◌-◌, ◌∷◌, Err, refl, ap, ◌∙◌, arith}
 use Rattle.std.proofs.lemmas.Result.{err_from_is_err_and}
 use Rattle.level.specs.Reading.{read_stmt, read_effect}
 use Rattle.level.specs.Readers.{nothing}
@@ -13,19 +13,19 @@ returns-then-code-eq0 t c = stops nothing _ _ _ (effect_past (listed c.args.sign
 pub returns-in-0 : goal.returns-in-0
 returns-in-0 t c = done nothing _ _ _ (effect_ends (listed c.args.signals.now) c.args.numbers c.args.self.now.rest.now c.args.left (omega arith) (omega arith)) _ _ refl c.advance.ensures
 
-pub returns-in-err-statement : goal.returns-in-err-statement
-returns-in-err-statement t c =
-    let p = err_from_is_err_and c.from-residual.result c.from-residual.ensures.1 in
+pub returns-in_err-statement-in-32-to-34-2 : goal.returns-in_err-statement-in-32-to-34-2
+returns-in_err-statement-in-32-to-34-2 t c =
+    let p = err_from_is_err_and c.from_residual.result c.from_residual.ensures.1 in
     broke _ (read_stmt (listed c.args.signals.now) c.args.numbers) _ _ c.args.self.now.rest.now (effect_more (listed c.args.signals.now) c.args.numbers c.args.self.now.rest.now c.args.left (omega arith) (omega arith) (omega arith) (omega arith)) refl
-    nothing nothing _ _ c.in-err-statement.ensures _ (p.1 ∙ ap Err p.2)
+    nothing nothing _ _ c.in_err-statement-in-32-to-34-2.ensures _ (p.1 ∙ ap Err p.2)
 
-pub returns-in-ok-statement : goal.returns-in-ok-statement
-returns-in-ok-statement t c =
+pub returns-in_ok-statement-in-32-to-34-2 : goal.returns-in_ok-statement-in-32-to-34-2
+returns-in_ok-statement-in-32-to-34-2 t c =
     two _ (read_stmt (listed c.args.signals.now) c.args.numbers) (read_effect (listed c.args.signals.now) c.args.numbers (c.args.left - 1)) ◌∷◌ _ c.args.self.now.rest.now
-    (effect_more (listed c.args.signals.now) c.args.numbers c.args.self.now.rest.now c.args.left (omega arith) (omega arith) (omega arith) (omega arith)) refl _ c.in-ok-statement.ensures _ _ c.statements.ensures
+    (effect_more (listed c.args.signals.now) c.args.numbers c.args.self.now.rest.now c.args.left (omega arith) (omega arith) (omega arith) (omega arith)) refl _ c.in_ok-statement-in-32-to-34-2.ensures _ _ c.statements.ensures
 
-pub returns-in-default : goal.returns-in-default
-returns-in-default t c = stops nothing _ _ _ (effect_none (listed c.args.signals.now) c.args.numbers c.args.self.now.rest.now c.args.left (omega arith) (λ e. omega arith) (λ l u. omega arith)) _ _ refl refl
+pub returns-in_default : goal.returns-in_default
+returns-in_default t c = stops nothing _ _ _ (effect_none (listed c.args.signals.now) c.args.numbers c.args.self.now.rest.now c.args.left (omega arith) (λ e. omega arith) (λ l u. omega arith)) _ _ refl refl
 
-pub returns-in-default·2 : goal.returns-in-default·2
-returns-in-default·2 t c = stops nothing _ _ _ (effect_none (listed c.args.signals.now) c.args.numbers c.args.self.now.rest.now c.args.left (omega arith) (λ e. omega arith) (λ l u. omega arith)) _ _ refl refl
+pub returns-in_default-2 : goal.returns-in_default-2
+returns-in_default-2 t c = stops nothing _ _ _ (effect_none (listed c.args.signals.now) c.args.numbers c.args.self.now.rest.now c.args.left (omega arith) (λ e. omega arith) (λ l u. omega arith)) _ _ refl refl

@@ -1,4 +1,3 @@
-use Rattle.std.proofs.Common.{rules}
 use Rattle.level.specs.Sound.{most_statements}
 use Rattle.level.proofs.cursor.Cursor.effect.Goals as goal
 

@@ -1,4 +1,3 @@
-use Rattle.std.proofs.Common.{rules}
 use Rattle.level.proofs.OnePiece.{end_is}
 use Rattle.level.proofs.cursor.Cursor.end.Goals as goal
 

@@ -1,4 +1,3 @@
-use Rattle.std.proofs.Common.{rules}
 use Rattle.level.specs.Sound.{deepest}
 use Rattle.level.proofs.cursor.Cursor.expression.Goals as goal
 

@@ -1,4 +1,4 @@
-use Rattle.std.proofs.Common.{sym, refl, ap, ◌∙◌, arith, rules, eqb-true}
+use Rattle.std.proofs.Common.{sym, refl, arith, eqb-true}
 use Rattle.std.proofs.lemmas.Result.{err_from_is_err_and}
 use Rattle.std.proofs.lemmas.Bool.Decides.{nat_tests}
 use Rattle.level.specs.Readers.{nothing}
@@ -15,20 +15,20 @@ kind-requires c = record {
   few = c.requires.few;
 }
 
-pub returns-in-err-shape : goal.returns-in-err-shape
-returns-in-err-shape c =
-    let p = err_from_is_err_and c.from-residual.result c.from-residual.ensures.1 in
+pub returns-in_err-shape : goal.returns-in_err-shape
+returns-in_err-shape c =
+    let p = err_from_is_err_and c.from_residual.result c.from_residual.ensures.1 in
     let g = kinds_broke (listed c.args.signals.now) c.requires.few c.args.total c.args.self.now.rest.now c.requires.short
-    (listed c.loop-self.kinds) (listed c.loop-self.transitions) c.loop-self.self.rest.now c.loop-self.invariant (eqb-true _ _ (sym c.loop-self-test.ensures)) _ _ c.in-err-shape.ensures.read in
+    (listed c.loop-self.kinds) (listed c.loop-self.transitions) c.loop-self.self.rest.now c.loop-self.invariant (eqb-true _ _ (sym c.loop-self-test.ensures)) _ _ c.in_err-shape.ensures.read in
     record { read = rw (p.1, p.2) g; kinds = holds_none nothing _ _ _ _ g; transitions = holds_none nothing _ _ _ _ g }
 
 pub loop-self-smaller : goal.loop-self-smaller
 loop-self-smaller c = kinds_less (listed c.args.signals.now) c.requires.few c.args.total c.args.self.now.rest.now c.requires.short
-    (listed c.loop-self.kinds) (listed c.loop-self.transitions) c.loop-self.self.rest.now c.loop-self.invariant (eqb-true _ _ (sym c.loop-self-test.ensures)) c.loop-self.self.octets _ _ c.in-ok-shape.ensures.read
+    (listed c.loop-self.kinds) (listed c.loop-self.transitions) c.loop-self.self.rest.now c.loop-self.invariant (eqb-true _ _ (sym c.loop-self-test.ensures)) c.loop-self.self.octets _ _ c.in_ok-shape.ensures.read
 
 pub loop-self-preserved : goal.loop-self-preserved
 loop-self-preserved c = kinds_again (listed c.args.signals.now) c.requires.few c.args.total c.args.self.now.rest.now c.requires.short
-    (listed c.loop-self.kinds) (listed c.loop-self.transitions) c.loop-self.self.rest.now c.loop-self.invariant (eqb-true _ _ (sym c.loop-self-test.ensures)) c.loop-self.self.octets _ _ c.in-ok-shape.ensures.read _ _ c.push.ensures c.in-ok-shape.ensures.table
+    (listed c.loop-self.kinds) (listed c.loop-self.transitions) c.loop-self.self.rest.now c.loop-self.invariant (eqb-true _ _ (sym c.loop-self-test.ensures)) c.loop-self.self.octets _ _ c.in_ok-shape.ensures.read _ _ c.push.ensures c.in_ok-shape.ensures.table
 
 pub returns : goal.returns
 returns c =

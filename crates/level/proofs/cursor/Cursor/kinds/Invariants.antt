@@ -1,4 +1,4 @@
-use Rattle.std.proofs.Common.{◌≡◌, ◌-◌, ◌++◌, map, length}
+use Rattle.std.proofs.Common.{length}
 use Rattle.level.specs.Reading.{read_kind, read_kinds}
 use Rattle.level.specs.Sound.{count, most_kinds}
 use Rattle.level.specs.Tables.{listed}

@@ -1,4 +1,4 @@
-use Rattle.std.proofs.Common.{sym, refl, arith, rules, eqb-true}
+use Rattle.std.proofs.Common.{sym, refl, arith, eqb-true}
 use Rattle.std.proofs.lemmas.Result.{err_from_is_err_and}
 use Rattle.std.proofs.lemmas.Bool.Decides.{nat_tests}
 use Rattle.level.specs.Readers.{nothing, entry_counts}
@@ -8,17 +8,17 @@ use Rattle.level.proofs.OnePiece.{pieces_broke, pieces_again, pieces_less, piece
 use Rattle.level.proofs.Turns.{done}
 use Rattle.level.proofs.cursor.Cursor.pieces.Goals as goal
 
-pub returns-in-err-entry : goal.returns-in-err-entry
-returns-in-err-entry c =
-    let p = err_from_is_err_and c.from-residual.result c.from-residual.ensures.1 in
-    let g = pieces_broke (entry_counts (listed c.args.kinds.now)) c.args.self.now.rest.now (listed c.loop-self.pieces) c.loop-self.self.rest.now c.loop-self.invariant (eqb-true _ _ (sym c.loop-self-test.ensures)) _ _ c.in-err-entry.ensures in
+pub returns-in_err-entry : goal.returns-in_err-entry
+returns-in_err-entry c =
+    let p = err_from_is_err_and c.from_residual.result c.from_residual.ensures.1 in
+    let g = pieces_broke (entry_counts (listed c.args.kinds.now)) c.args.self.now.rest.now (listed c.loop-self.pieces) c.loop-self.self.rest.now c.loop-self.invariant (eqb-true _ _ (sym c.loop-self-test.ensures)) _ _ c.in_err-entry.ensures in
     record { read = rw (p.1, p.2) g; table = holds_none nothing _ _ _ _ g }
 
 pub loop-self-smaller : goal.loop-self-smaller
-loop-self-smaller c = pieces_less (entry_counts (listed c.args.kinds.now)) c.args.self.now.rest.now (listed c.loop-self.pieces) c.loop-self.self.rest.now c.loop-self.invariant (eqb-true _ _ (sym c.loop-self-test.ensures)) _ _ c.in-ok-entry.ensures c.loop-self.self.octets
+loop-self-smaller c = pieces_less (entry_counts (listed c.args.kinds.now)) c.args.self.now.rest.now (listed c.loop-self.pieces) c.loop-self.self.rest.now c.loop-self.invariant (eqb-true _ _ (sym c.loop-self-test.ensures)) _ _ c.in_ok-entry.ensures c.loop-self.self.octets
 
 pub loop-self-preserved : goal.loop-self-preserved
-loop-self-preserved c = pieces_again (entry_counts (listed c.args.kinds.now)) c.args.self.now.rest.now (listed c.loop-self.pieces) c.loop-self.self.rest.now c.loop-self.invariant (eqb-true _ _ (sym c.loop-self-test.ensures)) _ _ c.in-ok-entry.ensures _ c.push.ensures
+loop-self-preserved c = pieces_again (entry_counts (listed c.args.kinds.now)) c.args.self.now.rest.now (listed c.loop-self.pieces) c.loop-self.self.rest.now c.loop-self.invariant (eqb-true _ _ (sym c.loop-self-test.ensures)) _ _ c.in_ok-entry.ensures _ c.push.ensures
 
 pub returns : goal.returns
 returns c =

@@ -1,4 +1,4 @@
-use Rattle.std.proofs.Common.{◌≡◌, [], ◌∷◌, ◌++◌, length, sym, refl, ap, ◌∙◌, arith, rules, eqb-true}
+use Rattle.std.proofs.Common.{◌≡◌, length, sym, refl, ap, ◌∙◌, arith, eqb-true}
 use Rattle.std.proofs.lemmas.Result.{err_from_is_err_and}
 use Rattle.std.proofs.lemmas.Bool.Decides.{nat_tests}
 use Rattle.level.specs.Reading.{read_signal}
@@ -10,18 +10,18 @@ use Rattle.level.proofs.Turns.{done}
 use Rattle.level.proofs.Limits.{signals_limit}
 use Rattle.level.proofs.cursor.Cursor.signals.Goals as goal
 
-pub returns-in-err-count : goal.returns-in-err-count
-returns-in-err-count c =
-    let p = err_from_is_err_and c.from-residual.result c.from-residual.ensures.1 in
+pub returns-in_err-count : goal.returns-in_err-count
+returns-in_err-count c =
+    let p = err_from_is_err_and c.from_residual.result c.from_residual.ensures.1 in
     let s = c.loop-self.invariant in
-    let t = turn_at (λ n. n) 2 32 most_signals _ (length s.so_far) c.loop-self.self.rest.now (read_signal c.loop-self.self.rest.now) signals_limit (ap length s.known) _ _ c.in-err-count.ensures in
+    let t = turn_at (λ n. n) 2 32 most_signals _ (length s.so_far) c.loop-self.self.rest.now (read_signal c.loop-self.self.rest.now) signals_limit (ap length s.known) _ _ c.in_err-count.ensures in
     let g = breaks 0x01 2 most_signals (λ _. read_signal) _ _ c.loop-self.self.rest.now s (λ n. n) (eqb-true _ _ (sym c.loop-self-test.ensures)) nothing _ _ t in
     record { read = rw (p.1, p.2) g; table = holds_none nothing _ _ _ _ g }
 
 pub loop-self-preserved : goal.loop-self-preserved
 loop-self-preserved c =
     let s = c.loop-self.invariant in
-    let t = turn_at (λ n. n) 2 32 most_signals _ (length s.so_far) c.loop-self.self.rest.now (read_signal c.loop-self.self.rest.now) signals_limit (ap length s.known) _ _ c.in-ok-count.ensures in
+    let t = turn_at (λ n. n) 2 32 most_signals _ (length s.so_far) c.loop-self.self.rest.now (read_signal c.loop-self.self.rest.now) signals_limit (ap length s.known) _ _ c.in_ok-count.ensures in
     again 0x01 2 most_signals (λ _. read_signal) _ _ c.loop-self.self.rest.now s (λ n. n) (eqb-true _ _ (sym c.loop-self-test.ensures)) (λ ss. listed c.push.new.self ≡ ss) _ _ t
     (λ x h m e q. c.push.ensures ∙ rw (s.known, q))
 

@@ -1,4 +1,4 @@
-use Rattle.std.proofs.Common.{◌≡◌, ◌-◌, ◌≤◌, ◌++◌, map, length}
+use Rattle.std.proofs.Common.{◌≡◌, ◌-◌, ◌++◌, map, length}
 use Rattle.level.specs.Entries.{transition_entry}
 use Rattle.level.specs.Places.{in_kind}
 use Rattle.level.specs.Reading.{read_transition, read_transitions}

@@ -1,4 +1,4 @@
-use Rattle.std.proofs.Common.{sym, rules}
+use Rattle.std.proofs.Common.{sym}
 use Rattle.level.specs.Tables.{listed}
 use Rattle.level.proofs.Listing.{counts_some, counts_none}
 use Rattle.level.proofs.readers.pieces.numbers_of.Goals as goal

@@ -1,4 +1,4 @@
-use Rattle.std.proofs.Common.{sym, arith, rules}
+use Rattle.std.proofs.Common.{sym, arith}
 use Rattle.level.specs.Tables.{listed}
 use Rattle.level.proofs.Listing.{parameters_some, parameters_none}
 use Rattle.level.proofs.readers.signals.parameters_of.Goals as goal

@@ -1,4 +1,4 @@
-use Rattle.std.proofs.Common.{Ok, Err, sym, refl, ap, ◌∙◌, arith, rules}
+use Rattle.std.proofs.Common.{Ok, sym, ap, ◌∙◌, arith, rules}
 use Rattle.level.specs.Contents.{contents}
 use Rattle.level.specs.Levels.{loaded}
 use Rattle.level.proofs.Loading.{level_law, too_long, refused, found, legible, indexed, pieces_counted}
@@ -9,10 +9,10 @@ returns-then-total-gt8192 c =
     let k = too_long c.args.bytes.now (omega arith) in
     record { answer = rw k; after = rw k; law = level_law }
 
-pub invariant-of-self : goal.invariant-of-self
-invariant-of-self c =
+pub invariant_of-self : goal.invariant_of-self
+invariant_of-self c =
     let s = found c.args.bytes.now (omega arith) _ c.in-Ok.ensures.read (contents c.read.new.self) c.in-Ok.ensures.index in
-    (search rules, (legible _ _ s, (∣ indexed _ _ s ∣₁, tt)))
+    record { octets = search rules; legible = legible _ _ s; indexed = ∣ indexed _ _ s ∣₁ }
 
 pub returns-in-Ok : goal.returns-in-Ok
 returns-in-Ok c =

@@ -1,7 +1,7 @@
-use Rattle.std.proofs.Common.{refl, arith, rules}
+use Rattle.std.proofs.Common.{refl, rules}
 use Rattle.level.specs.Sound.{most_signals, most_kinds, most_pieces, most_bytes}
 use Rattle.level.proofs.store.Level.new.Goals as goal
 
-pub invariant-of-result : goal.invariant-of-result
+pub invariant_of-result : goal.invariant_of-result
 unfolding most_signals most_kinds most_pieces most_bytes
-invariant-of-result c = (search rules, (refl, (∣ c.new.ensures ∣₁, tt)))
+invariant_of-result c = record { octets = search rules; legible = refl; indexed = ∣ c.new.ensures ∣₁ }

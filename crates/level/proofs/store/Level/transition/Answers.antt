@@ -1,4 +1,4 @@
-use Rattle.std.proofs.Common.{ap, ◌∙◌, rules}
+use Rattle.std.proofs.Common.{ap, ◌∙◌}
 use Rattle.level.specs.Tables.{nth}
 use Rattle.level.proofs.Held.{held_transitions}
 use Rattle.level.proofs.store.Level.transition.Goals as goal

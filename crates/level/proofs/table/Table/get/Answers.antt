@@ -1,4 +1,4 @@
-use Rattle.std.proofs.Common.{sym, arith, rules}
+use Rattle.std.proofs.Common.{sym, arith}
 use Rattle.std.proofs.lemmas.List.{length-take-le}
 use Rattle.level.proofs.Listing.{nth_front, nth_past}
 use Rattle.level.proofs.table.Table.get.Goals as goal

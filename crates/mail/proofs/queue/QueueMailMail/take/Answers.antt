@@ -9,8 +9,8 @@ returns-then-piece-gt31 c =
     let w = take_refused _ c.args.piece past (queue_beyond c.args.self.now c.args.piece past) in
     record { answer = w.0; after = w.1 }
 
-pub remove-first-requires : goal.remove-first-requires
-remove-first-requires c =
+pub remove_first-requires : goal.remove_first-requires
+remove_first-requires c =
     let s = c.args.self.now in
     let p = c.args.piece in
     let here = c.if-piece-gt31.false in
@@ -18,19 +18,20 @@ remove-first-requires c =
     let b = s.few p in
     record { some = omega (arith, some_wait _ _ c.in-Some.ensures); within = omega (arith, queue_lent s p here) }
 
-pub overflow-sub-self : goal.overflow-sub-self
-overflow-sub-self c =
+pub overflow_sub-self : goal.overflow_sub-self
+overflow_sub-self c =
     omega (arith, queue_count c.args.self.now c.args.piece c.if-piece-gt31.false, some_wait _ _ c.in-Some.ensures)
 
-pub invariant-of-self : goal.invariant-of-self
-invariant-of-self c =
+pub invariant_of-self : goal.invariant_of-self
+invariant_of-self c =
     let s = c.args.self.now in
     let b = s.few c.args.piece in
-    queue_kept s c.args.piece c.if-piece-gt31.false _ c.remove-first.auto.places _ (omega arith)
+    let all = queue_kept s c.args.piece c.if-piece-gt31.false _ c.remove_first.auto.places _ (omega arith) in
+    record { places = all.0; counts = all.1.0; few = all.1.1.0 }
 
 pub returns : goal.returns
 returns c =
     let w =
-    queue_take c.args.self.now c.args.piece c.if-piece-gt31.false _ c.remove-first.auto.places
-    c.in-Some.message c.in-Some.ensures c.remove-first.ensures in
+    queue_take c.args.self.now c.args.piece c.if-piece-gt31.false _ c.remove_first.auto.places
+    c.in-Some.message c.in-Some.ensures c.remove_first.ensures in
     record { answer = w.0; after = w.1 }

@@ -9,8 +9,8 @@ returns-then-piece-gt31 c =
     let w = take_refused _ c.args.piece past (urgent_beyond c.args.self.now c.args.piece past) in
     record { answer = w.0; after = w.1 }
 
-pub drop-first-requires : goal.drop-first-requires
-drop-first-requires c =
+pub drop_first-requires : goal.drop_first-requires
+drop_first-requires c =
     let s = c.args.self.now in
     let p = c.args.piece in
     let here = c.if-piece-gt31.false in
@@ -18,5 +18,5 @@ drop-first-requires c =
 
 pub returns : goal.returns
 returns c =
-    let w = urgent_take c.args.self.now c.args.piece c.if-piece-gt31.false c.in-Some.message _ c.in-Some.ensures c.drop-first.ensures.after in
+    let w = urgent_take c.args.self.now c.args.piece c.if-piece-gt31.false c.in-Some.message _ c.in-Some.ensures c.drop_first.ensures.after in
     record { answer = w.0; after = w.1 }
