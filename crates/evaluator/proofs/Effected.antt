@@ -1,28 +1,16 @@
 -- What the statements of an effect do to the trails, one after the other.
-use Rattle.std.proofs.Common.{◌≡◌, ℕ, zero, suc, ◌+◌, ◌-◌, ◌<◌, ◌≤◌, Bool, true, false, cond, leb, List, [], ◌∷◌, ◌++◌, length, get_or, take, drop, ℤ, Some, None, Ok, Err, Option, Result, sym, refl, ap, ◌∙◌, subst, ⊎_elim, arith, length-append, length-drop}
-use Rattle.std.proofs.lemmas.List.{get_or-drop, drop-drop}
+use Rattle.std.proofs.Common.{◌≡◌, ℕ, ◌+◌, ◌-◌, ◌<◌, ◌≤◌, true, List, ◌∷◌, length, get_or, drop, Ok, Err, Result, sym, refl, ap, ◌∙◌, subst, ⊎_elim, arith, length-drop}
+use Rattle.std.proofs.lemmas.List.{drop-drop}
 use Rattle.std.proofs.lemmas.Bool.{cases_lt}
-use Rattle.mail.specs.declared.message.Message.{Message}
 use Rattle.level.specs.Law.{Bytes}
-use Rattle.level.specs.Reading.{Read, got, bad, then, at, known, order, read_expr, read_exprs, read_order, read_stmt, read_effect}
-use Rattle.level.specs.Sound.{deepest, parameters}
-use Rattle.level.specs.Spelling.{expression, size, all, statement}
-use Rattle.level.specs.Syntax.{Expr, Stmt, assign, store, send}
-use Rattle.level.proofs.Arms.{room_in, room_out, operand_in, operand_over, operand_under, stmt_at, stmt_none, effect_past, effect_none, effect_ends, effect_full, effect_more}
-use Rattle.level.proofs.Legible.{expr_rest, stmt_rest}
-use Rattle.rules.specs.declared.fault.Cause.TheVariants.{Missing}
-use Rattle.rules.specs.declared.fault.Stumble.{Stumble}
+use Rattle.level.specs.Reading.{Read, got, bad, then, at, read_stmt, read_effect}
+use Rattle.level.specs.Spelling.{statement}
+use Rattle.level.specs.Syntax.{Stmt}
+use Rattle.level.proofs.Arms.{effect_past, effect_none, effect_ends, effect_full, effect_more}
+use Rattle.level.proofs.Legible.{stmt_rest}
 use Rattle.rules.specs.declared.fault.Why.{Why}
-use Rattle.rules.specs.declared.fault.Why.TheVariants.{Stumbles}
-use Rattle.rules.specs.declared.trail.Change.{Change}
-use Rattle.rules.specs.declared.trail.Parcel.{Parcel}
-use Rattle.rules.specs.Game.{message}
-use Rattle.rules.specs.Names.{piece_named, cell_named}
-use Rattle.rules.specs.Trace.{Own, over, Trace, bind, needing, write, post, evaluate, evaluate_all, run}
-use Rattle.evaluator.specs.Meeting.{Lists, Around, write_to, send_to, met, own_in, step, steps, step_at, steps_at, message_at, there, with_lists, lists_or}
-use Rattle.evaluator.specs.Reckoning.{Sight, follow, valued, legible, value_at}
-use Rattle.evaluator.proofs.Following.{follow_follow, follow_same, halted, gone}
-use Rattle.evaluator.proofs.Meeting.{value_met, values_met}
+use Rattle.evaluator.specs.Meeting.{Lists, Around, step, steps, step_at, steps_at}
+use Rattle.evaluator.specs.Reckoning.{follow, legible}
 use Rattle.evaluator.proofs.Reckoned.{not_bad}
 use Rattle.evaluator.proofs.Stated.{first}
 

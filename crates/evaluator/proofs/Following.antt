@@ -1,5 +1,5 @@
 -- Traces one after the other, for one who sees the changes of earlier moves.
-use Rattle.std.proofs.Common.{◌≡◌, ℕ, Bool, true, false, cond, List, [], ◌∷◌, ◌++◌, is_some, Ok, Err, Result, sym, refl, ap, ◌∙◌}
+use Rattle.std.proofs.Common.{◌≡◌, Bool, true, false, cond, List, [], ◌∷◌, ◌++◌, is_some, Ok, Err, Result, sym, refl, ap, ◌∙◌}
 use Rattle.rules.specs.declared.fault.Why.{Why}
 use Rattle.rules.specs.declared.fault.Why.TheVariants.{Clash}
 use Rattle.rules.specs.declared.trail.Change.{Change}

@@ -1,9 +1,9 @@
 -- A message, by how many numbers its signal has.
-use Rattle.std.proofs.Common.{◌≡◌, ℕ, zero, suc, ◌+◌, ◌<◌, ◌≤◌, true, List, [], ◌∷◌, ◌++◌, length, get_or, drop, ℤ, Some, None, Ok, Err, Option, Result, sym, refl, ap, ◌∙◌, subst, arith, length-append}
+use Rattle.std.proofs.Common.{◌≡◌, ℕ, zero, suc, ◌+◌, ◌≤◌, true, List, [], ◌∷◌, ◌++◌, length, get_or, drop, ℤ, Some, None, Ok, Err, Result, sym, refl, ap, ◌∙◌, subst, arith, length-append}
 use Rattle.mail.specs.declared.message.Message.{Message}
 use Rattle.level.specs.declared.store.Level.{Level}
 use Rattle.level.specs.Law.{Bytes}
-use Rattle.level.specs.Levels.{code, meaning, signal_parameters}
+use Rattle.level.specs.Levels.{meaning, signal_parameters}
 use Rattle.level.specs.Reading.{Read, got, bad, then, read_expr, read_exprs}
 use Rattle.level.specs.Sound.{Each, deepest, parameters}
 use Rattle.level.specs.Spelling.{expression, size, all}
@@ -12,8 +12,7 @@ use Rattle.level.specs.Tables.{nth}
 use Rattle.level.proofs.Held.{held_sound}
 use Rattle.rules.specs.declared.fault.Why.{Why}
 use Rattle.rules.specs.Game.{message}
-use Rattle.rules.specs.Trace.{give, bind, evaluate_all}
-use Rattle.evaluator.specs.Lookup.{last_change}
+use Rattle.rules.specs.Trace.{give, bind}
 use Rattle.evaluator.specs.Meeting.{message_at}
 use Rattle.evaluator.specs.Reckoning.{Sight, follow, valued, legible, value_at}
 use Rattle.evaluator.proofs.Following.{follow_follow, follow_same, valued_bind}

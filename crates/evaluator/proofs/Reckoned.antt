@@ -1,5 +1,5 @@
 -- What an expression comes to, by the command byte at its place.
-use Rattle.std.proofs.Common.{◌≡◌, ℕ, zero, suc, ◌+◌, ◌-◌, ◌<◌, ◌≤◌, Bool, true, false, cond, not, leb, List, [], ◌∷◌, length, get_or, drop, ℤ, pos, is_some, Some, None, Ok, Err, Option, Result, sym, refl, ap, ◌∙◌, subst, ⊎_elim, arith, length-append, length-drop}
+use Rattle.std.proofs.Common.{◌≡◌, ℕ, zero, suc, ◌+◌, ◌-◌, ◌<◌, ◌≤◌, Bool, true, false, not, leb, List, [], length, get_or, drop, ℤ, pos, Some, None, Ok, Err, Option, Result, sym, refl, ap, ◌∙◌, subst, ⊎_elim, arith, length-append, length-drop}
 use Rattle.std.proofs.lemmas.List.{get_or-drop, drop-drop}
 use Rattle.std.proofs.lemmas.Bool.{cases_lt}
 use Rattle.level.specs.declared.fault.Reason.{Reason}
@@ -8,18 +8,15 @@ use Rattle.level.specs.Law.{Bytes}
 use Rattle.level.specs.Levels.{code, meaning}
 use Rattle.level.specs.Reading.{Read, got, bad, fault, then, when, at, number, known, Form, a_binary, form, read_expr}
 use Rattle.level.specs.Spelling.{expression, size}
-use Rattle.level.specs.Syntax.{Operator, Expr, constant, own_piece, own, other, binary, negation}
+use Rattle.level.specs.Syntax.{Operator, Expr, other, binary, negation}
 use Rattle.level.proofs.Arms.{expr_past, constant_short, constant_is, own_piece_is, own_short, own_over, own_is, other_short, other_over, other_is, expr_at, form_binary, negation_is, expr_none}
 use Rattle.level.proofs.Legible.{expr_rest, bytes_from}
-use Rattle.rules.specs.declared.fault.Cause.{Cause}
 use Rattle.rules.specs.declared.fault.Cause.TheVariants.{ZeroDivisor, Missing}
 use Rattle.rules.specs.declared.fault.Why.{Why}
 use Rattle.rules.specs.declared.fault.Why.TheVariants.{Stumbles}
-use Rattle.rules.specs.declared.trail.Change.{Change}
 use Rattle.rules.specs.Arithmetic.{holds, truth, computed}
-use Rattle.rules.specs.Game.{Game}
 use Rattle.rules.specs.Names.{cell_named}
-use Rattle.rules.specs.Trace.{Own, Trace, give, bind, needing, seen, look, evaluate}
+use Rattle.rules.specs.Trace.{Trace, give, bind, needing, seen, look, evaluate}
 use Rattle.evaluator.specs.Commands.{result_of}
 use Rattle.evaluator.specs.Lookup.{last_change}
 use Rattle.evaluator.specs.declared.view.View.{View}

@@ -1,5 +1,5 @@
 -- A transition: what it receives, its guard, its effect.
-use Rattle.std.proofs.Common.{◌≡◌, ℕ, ◌+◌, Bool, true, false, cond, List, [], ◌∷◌, map, take, drop, ℤ, Some, None, Ok, Err, Option, Result, sym, refl, ap, ◌∙◌}
+use Rattle.std.proofs.Common.{◌≡◌, ℕ, ◌+◌, true, false, cond, List, [], ◌∷◌, map, take, drop, ℤ, Some, None, Ok, Err, Option, Result, sym, refl, ap, ◌∙◌}
 use Rattle.mail.specs.declared.message.Message.{Message}
 use Rattle.mail.specs.Trays.{Trays}
 use Rattle.level.specs.declared.entry.TransitionEntry.{TransitionEntry}
@@ -24,7 +24,7 @@ use Rattle.evaluator.specs.Meeting.{Lists, Around, around, sight_of, write_to, r
 use Rattle.evaluator.specs.Reckoning.{follow, valued, value_at}
 use Rattle.evaluator.specs.Trying.{trial_of, entering}
 use Rattle.evaluator.proofs.Following.{follow_follow, halted, gone}
-use Rattle.evaluator.proofs.Trying.{x, is_there, is_entry, guard_read, effect_read, reads, trial_is}
+use Rattle.evaluator.proofs.Trying.{x, is_there, is_entry, guard_read, effect_read, trial_is}
 
 module _ {M : Type 0} (trays : M → Trays) (limit : ℕ) (u : Turn M) (places : Lent) (ps : List Parcel) (n : ℕ) (found : TransitionEntry)
     (h : Some found ≡ nth (map transition_entry (placed (meaning u.level.now))) n) where

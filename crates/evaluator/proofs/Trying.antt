@@ -1,12 +1,11 @@
 -- Received numbers entered, and guards tried.
-use Rattle.std.proofs.Common.{◌≡◌, ℕ, zero, suc, ◌+◌, ◌<◌, ◌≤◌, Bool, true, false, cond, ◌&&◌, eqb, List, [], ◌∷◌, ◌++◌, map, length, drop, ℤ, Some, None, Ok, Err, Option, Result, sym, refl, ap, ◌∙◌, subst, arith}
+use Rattle.std.proofs.Common.{◌≡◌, ℕ, zero, suc, ◌+◌, ◌<◌, Bool, true, false, cond, ◌&&◌, eqb, List, [], ◌∷◌, ◌++◌, map, length, drop, ℤ, Some, None, Ok, Err, Option, Result, sym, refl, ap, ◌∙◌, arith}
 use Rattle.mail.specs.declared.message.Message.{Message}
 use Rattle.level.specs.declared.entry.TransitionEntry.{TransitionEntry}
-use Rattle.level.specs.declared.store.Level.{Level}
 use Rattle.level.specs.Entries.{transition_entry}
 use Rattle.level.specs.Levels.{code, meaning}
 use Rattle.level.specs.Places.{Placed, effect_place, placed}
-use Rattle.level.specs.Reading.{Read, got, read_expr, read_effect}
+use Rattle.level.specs.Reading.{got, read_expr, read_effect}
 use Rattle.level.specs.Sound.{deepest, most_statements}
 use Rattle.level.specs.Spelling.{size}
 use Rattle.level.specs.Syntax as syntax
@@ -21,8 +20,8 @@ use Rattle.rules.specs.Game.{Game}
 use Rattle.rules.specs.Trace.{Own, no_writes, Receipt, receipts, laid_over, bind, halt, evaluate, wants, unwanted}
 use Rattle.evaluator.specs.declared.turn.Turn.{Turn}
 use Rattle.evaluator.specs.Lookup.{last_change}
-use Rattle.evaluator.specs.Meeting.{Lists, Around, write_to, received_by, receiving, guarding, transiting, steps, steps_at, own_in}
-use Rattle.evaluator.specs.Reckoning.{Sight, board_of, follow, valued, legible, value_at}
+use Rattle.evaluator.specs.Meeting.{write_to}
+use Rattle.evaluator.specs.Reckoning.{board_of, follow, valued, legible}
 use Rattle.evaluator.specs.Trying.{numbers_of, trial_of, entering, tried, tried_by, wanted, discarded, held_at, trial_sight}
 use Rattle.evaluator.proofs.Following.{follow_follow, follow_same, valued_bind, halted, gone}
 

@@ -1,5 +1,5 @@
 -- What is noted of the moves listed before: which pieces moved, and from which trays a message was taken.
-use Rattle.std.specs.Prelude.{ℕ, Bool, true, false, cond, ◌&&◌, ◌||◌, ◌==◌, nat_lt, slice_index_or}
+use Rattle.std.specs.Prelude.{ℕ, Bool, false, ◌&&◌, ◌||◌, ◌==◌, nat_lt, slice_index_or}
 use Rattle.evaluator.specs.declared.listed.Listed.{Listed}
 
 abbrev pub moved_in : Listed → ℕ → Bool

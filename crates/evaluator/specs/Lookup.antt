@@ -1,5 +1,5 @@
 -- What the entries of the trails say of a cell and of a tray.
-use Rattle.std.specs.Prelude.{ℕ, suc, cond, List, [], ◌∷◌, ℤ, Option, ◌==◌}
+use Rattle.std.specs.Prelude.{ℕ, suc, cond, List, [], ◌∷◌, ◌==◌}
 use Rattle.rules.specs.declared.trail.Change.{Change}
 use Rattle.rules.specs.declared.trail.Parcel.{Parcel}
 use Rattle.rules.specs.Trace.{Own, no_writes, over}

@@ -1,6 +1,6 @@
 -- What guards and effects do to the trails, met by what earlier moves left in them. This is scaffolding between the rules and the
 -- code: no public promise speaks of it.
-use Rattle.std.specs.Prelude.{◌≡◌, ℕ, ◌+◌, ◌-◌, Bool, true, false, cond, List, [], ◌∷◌, ◌++◌, length, take, drop, ℤ, is_some, Some, None, Ok, Err, Option, Result, ◌==◌, nat_lt}
+use Rattle.std.specs.Prelude.{◌≡◌, ℕ, ◌+◌, ◌-◌, cond, List, [], ◌∷◌, ◌++◌, length, take, drop, is_some, Some, None, Ok, Err, Option, Result, ◌==◌, nat_lt}
 use Rattle.mail.specs.declared.message.Message.{Message}
 use Rattle.mail.specs.Trays.{Trays}
 use Rattle.level.specs.Levels.{code, meaning}
@@ -23,7 +23,7 @@ use Rattle.evaluator.specs.declared.turn.Turn.{Turn}
 use Rattle.evaluator.specs.Listing.{took_in}
 use Rattle.evaluator.specs.Lookup.{last_change, parcels_to}
 use Rattle.evaluator.specs.Reckoning.{Sight, board_of, follow, valued}
-use Rattle.evaluator.specs.Trails.{held, room}
+use Rattle.evaluator.specs.Trails.{room}
 
 -- the memory that is lent stays the same
 abbrev pub Kept : {T : Type 0} → Trail T → Trail T → Type 0

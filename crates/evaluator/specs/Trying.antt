@@ -1,6 +1,6 @@
 -- How received numbers are entered, and how guards are tried. This is scaffolding between the rules and the code: no public promise
 -- speaks of it.
-use Rattle.std.specs.Prelude.{ℕ, Bool, true, false, cond, List, [], ◌∷◌, ◌++◌, ℤ, Some, None, Ok, Err, Option, Result}
+use Rattle.std.specs.Prelude.{ℕ, Bool, false, cond, List, [], ◌∷◌, ◌++◌, ℤ, Some, None, Ok, Option, Result}
 use Rattle.mail.specs.declared.message.Message.{Message}
 use Rattle.level.specs.declared.entry.TransitionEntry.{TransitionEntry}
 use Rattle.level.specs.Levels.{code, meaning}

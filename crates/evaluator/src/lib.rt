@@ -1,4 +1,6 @@
 // How moves are carried out: the rows of the pieces, the trails that a call fills, and the evaluation of guards and effects.
+#![tactic(auto)]
+
 mod arithmetic;
 mod effects;
 mod expressions;

@@ -192,8 +192,32 @@ module _ (L : Level) (P : Placed → Type 0) (one : (k n i m : ℕ) (t : Transit
 abbrev Few : Placed → Type 0
 Few t = length t.transition.effect ≤ most_statements
 
+few_kind : (signals : List ℕ) (k n i m : ℕ) (ts : List Transition) → Each (SoundTransition signals n m) ts → Each Few (in_kind k n i ts)
+few_kind signals k n i m [] h = tt
+few_kind signals k n i m (t ∷ ts) h = (h.0.statements, few_kind signals k n (i + length (transition t)) m ts h.1)
+
+few_kinds : (signals : List ℕ) (k i : ℕ) (xs : List Kind) → Each (SoundKind signals) xs → Each Few (in_kinds k i xs)
+few_kinds signals k i [] h = tt
+few_kinds signals k i (x ∷ xs) h = each_append Few (in_kind k x.numbers (i + 3) x.transitions) _
+    (few_kind signals k x.numbers (i + 3) x.states x.transitions h.0.transitions) (few_kinds signals (k + 1) (i + length (kind x)) xs h.1)
+
+few_of : (L : Level) (p n : ℕ) → Sound L → Maybe Few (transition_of L p n)
+few_of L p n sound = piece (nth L.pieces p)
+  where
+    same : (b : Bool) (t : Placed) → Few t → Maybe Few (cond b (Some t) None)
+    same true t h = h
+    same false t h = tt
+
+    found : (x : Piece) (o : Option Placed) → Maybe Few o → Maybe Few (then o (λ t. cond (eqb t.kind x.kind) (Some t) None))
+    found x None h = tt
+    found x (Some t) h = same (eqb t.kind x.kind) t h
+
+    piece : (o : Option Piece) → Maybe Few (then o (λ x. then (nth (placed L) n) (λ t. cond (eqb t.kind x.kind) (Some t) None)))
+    piece None = tt
+    piece (Some x) = found x (nth (placed L) n) (each_nth Few (placed L) n (few_kinds L.signals 0 _ L.kinds sound.kinds))
+
 module _ (L : Level) (sound : Sound L) (g : Game) where
-  weight_of : (w s : ℕ) → w ≤ 1 → s ≤ 1 → (p : ℕ) (o : Option Placed) → Maybe (λ t. Few t × (p < length L.pieces)) o → weight w s (transit_deed L g p o).events ≤ w * 2 + 8
+  weight_of : (w s : ℕ) → w ≤ 1 → s ≤ 1 → (p : ℕ) (o : Option Placed) → Maybe Few o → weight w s (transit_deed L g p o).events ≤ w * 2 + 8
   unfolding most_statements
   weight_of w s w1 s1 p None f = omega arith
   weight_of w s w1 s1 p (Some t) f = let h = weight_transit w s L g p w1 s1 t (eqb t.transition.signal 0) (front (g.trays p)) in omega arith
@@ -203,7 +227,7 @@ module _ (L : Level) (sound : Sound L) (g : Game) where
   weight_away w s p (Some x) = weight_discard w s L g p x.kind (front (g.trays p))
 
   weight_act : (w s : ℕ) → w ≤ 1 → s ≤ 1 → (p : ℕ) (a : Act) → weight w s (act_deed L g p a).events ≤ w * 2 + 8
-  weight_act w s w1 s1 p (act.Transition n) = weight_of w s w1 s1 p (transition_of L p n) (transition_has L Few (λ k n i m t l h. h.statements) sound p n)
+  weight_act w s w1 s1 p (act.Transition n) = weight_of w s w1 s1 p (transition_of L p n) (few_of L p n sound)
   weight_act w s w1 s1 p Discard = let h = weight_away w s p (nth L.pieces p) in omega arith
 
   changes_fit : (ms : List Move) → length (changes (map (deed L g) ms)) ≤ 10 * length ms

@@ -16,8 +16,8 @@ truth b = cond b (pos 1) (pos 0)
 abbrev pub divided : ℤ → ℤ → Option ℤ
 divided w z = cond (holds w) (Some z) None
 
--- `wrapped w32` takes a result modulo 2^32 into the range of the signed numbers of 32 bits. `quot_z` drops the fraction towards
--- zero and `rem_z` has the dividend's sign, so that only -2147483648 by -1 has a quotient that wraps
+-- `int_wrap w32` takes a result modulo 2^32 into the range of the signed numbers of 32 bits. `int_div` drops the fraction towards
+-- zero and `int_rem` has the dividend's sign, so that only -2147483648 by -1 has a quotient that wraps
 abbrev pub computed : Operator → ℤ → ℤ → Option ℤ
 computed sum v w = Some (int_wrap w32 (v +ℤ w))
 computed difference v w = Some (int_wrap w32 (v -ℤ w))

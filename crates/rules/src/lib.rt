@@ -2,6 +2,8 @@
 //
 // The meaning is in specs/, to be read in the order of specs/Lib.antt. Code finds here the types that the rules speak of. The
 // functions do nothing: each is there for its promise, a theorem about the rules, which the check has proved.
+#![tactic(auto)]
+
 ghost use Rattle.level.specs.Syntax.{Level};
 ghost use Rattle.rules.specs.Law.{LawIn, RunsEndAlike};
 ghost use Rattle.rules.specs.Theorems.{DependsOnReads, BeatsSplit, NeighboursExchange, NoneClash, ClashesAreReal, FireIsAStep, RefusalsChangeNothing, TraysStayWithin, TrailsSuffice};

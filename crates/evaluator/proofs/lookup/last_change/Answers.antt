@@ -1,7 +1,6 @@
-use Rattle.std.proofs.Common.{◌≡◌, ◌+◌, ◌-◌, ◌<◌, false, ◌&&◌, eqb, length, get_or, sym, ap, ◌∙◌, arith, rules}
+use Rattle.std.proofs.Common.{◌≡◌, ◌+◌, ◌-◌, false, ◌&&◌, eqb, get_or, ◌∙◌, arith, rules}
 use Rattle.std.proofs.lemmas.List.{take_all}
 use Rattle.std.proofs.lemmas.Bool.Decides.{nat_tests}
-use Rattle.evaluator.specs.Lookup.{last_change}
 use Rattle.evaluator.proofs.Looking.{no_change, last_found, last_before}
 use Rattle.evaluator.proofs.lookup.last_change.Goals.{else-changes-i-via-then-changes-i+else-changes-i-2, else-changes-i-via-else-changes-i}
 use Rattle.evaluator.proofs.lookup.last_change.Goals as goal

@@ -1,4 +1,4 @@
-use Rattle.std.proofs.Common.{sym, ap, arith, rules}
+use Rattle.std.proofs.Common.{sym, ap, arith}
 use Rattle.std.proofs.lemmas.List.{get_or_past}
 use Rattle.evaluator.specs.Rows.{no_row}
 use Rattle.evaluator.proofs.table.Table.state.Goals as goal

@@ -1,17 +1,16 @@
-use Rattle.std.proofs.Common.{◌≡◌, ℕ, ◌+◌, List, [], length, get_or, Some, None, Err, sym, ap, ◌∙◌, arith, w32, SFits, rules}
+use Rattle.std.proofs.Common.{ℕ, ◌+◌, [], length, get_or, Err, sym, ap, ◌∙◌, arith, w32, SFits, rules}
 use Rattle.std.proofs.lemmas.Result.{err_from_is_err_and}
 use Rattle.std.proofs.lemmas.Int.{to_z-of_z}
 use Rattle.level.specs.Levels.{code}
 use Rattle.level.proofs.Legible.{bytes_from}
 use Rattle.rules.specs.declared.fault.Why.TheVariants.{Stumbles}
-use Rattle.rules.specs.declared.trail.Parcel.{Parcel}
 use Rattle.evaluator.specs.Meeting.{Lists, Around, around}
 use Rattle.evaluator.specs.Trails.{held, room}
 use Rattle.evaluator.proofs.Stated.{send_long, send_piece, send_halts, message_reads, send_stops, send_misses, send_refused, send_told, found_named, missing_named, refused_with}
 use Rattle.evaluator.proofs.turn.Turn.post.Goals as goal
 
-pub overflow-add-signal : goal.overflow-add-signal
-overflow-add-signal g c =
+pub overflow_add-signal : goal.overflow_add-signal
+overflow_add-signal g c =
     let A : Around = around g.M.Mail.trays g.M.Mail.limit c.args.self.now (record { changes = 0; parcels = 0 }) in
     let t : Lists = record { changes = held c.args.changes.now; parcels = [] } in
     let k = send_long A (code c.args.self.now.level.now) (bytes_from c.args.self.now.level.now) t c.args.at c.requires.legible c.requires.byte in search rules
@@ -22,8 +21,8 @@ bounds-code-at g c =
     let t : Lists = record { changes = held c.args.changes.now; parcels = [] } in
     let k = send_long A (code c.args.self.now.level.now) (bytes_from c.args.self.now.level.now) t c.args.at c.requires.legible c.requires.byte in let e = ap length c.code.ensures in omega arith
 
-pub overflow-add-at : goal.overflow-add-at
-overflow-add-at g c =
+pub overflow_add-at : goal.overflow_add-at
+overflow_add-at g c =
     let A : Around = around g.M.Mail.trays g.M.Mail.limit c.args.self.now (record { changes = 0; parcels = 0 }) in
     let t : Lists = record { changes = held c.args.changes.now; parcels = [] } in
     let k = send_long A (code c.args.self.now.level.now) (bytes_from c.args.self.now.level.now) t c.args.at c.requires.legible c.requires.byte in search rules
@@ -34,13 +33,13 @@ expression-requires g c =
     let t : Lists = record { changes = held c.args.changes.now; parcels = [] } in
     send_piece A (code c.args.self.now.level.now) (bytes_from c.args.self.now.level.now) t c.args.at c.requires.legible c.requires.byte
 
-pub returns-in-err-named : goal.returns-in-err-named
-returns-in-err-named g c =
+pub returns-in_err-named : goal.returns-in_err-named
+returns-in_err-named g c =
     let A : ℕ → Around = λ n. around g.M.Mail.trays g.M.Mail.limit c.args.self.now (record { changes = n; parcels = room c.args.parcels.now }) in
     let t : Lists = record { changes = held c.args.changes.now; parcels = held c.args.parcels.now } in
-    let p = err_from_is_err_and c.from-residual.result c.from-residual.ensures.1 in
+    let p = err_from_is_err_and c.from_residual.result c.from_residual.ensures.1 in
     record {
-      lists = λ n. refused_with _ _ _ _ (p.1 ∙ ap Err p.2) (send_halts (A n) (code c.args.self.now.level.now) (bytes_from c.args.self.now.level.now) t c.args.at c.requires.legible c.requires.byte _ c.in-err-named.ensures);
+      lists = λ n. refused_with _ _ _ _ (p.1 ∙ ap Err p.2) (send_halts (A n) (code c.args.self.now.level.now) (bytes_from c.args.self.now.level.now) t c.args.at c.requires.legible c.requires.byte _ c.in_err-named.ensures);
       kept = search rules;
     }
 
@@ -48,40 +47,40 @@ pub message-requires : goal.message-requires
 message-requires g c =
     let A : Around = around g.M.Mail.trays g.M.Mail.limit c.args.self.now (record { changes = 0; parcels = 0 }) in
     let t : Lists = record { changes = held c.args.changes.now; parcels = [] } in
-    message_reads A (code c.args.self.now.level.now) (bytes_from c.args.self.now.level.now) t c.args.at c.requires.legible c.requires.byte _ (ap (λ l. get_or l (c.args.at + 1) 0) (sym c.code.ensures)) c.in-ok-named.named c.in-ok-named.middle c.in-ok-named.ensures
+    message_reads A (code c.args.self.now.level.now) (bytes_from c.args.self.now.level.now) t c.args.at c.requires.legible c.requires.byte _ (ap (λ l. get_or l (c.args.at + 1) 0) (sym c.code.ensures)) c.in_ok-named.named c.in_ok-named.middle c.in_ok-named.ensures
 
-pub returns-in-err-message : goal.returns-in-err-message
-returns-in-err-message g c =
+pub returns-in_err-message : goal.returns-in_err-message
+returns-in_err-message g c =
     let A : ℕ → Around = λ n. around g.M.Mail.trays g.M.Mail.limit c.args.self.now (record { changes = n; parcels = room c.args.parcels.now }) in
     let t : Lists = record { changes = held c.args.changes.now; parcels = held c.args.parcels.now } in
-    let p = err_from_is_err_and c.from-residual-in-err-message.result c.from-residual-in-err-message.ensures.1 in
+    let p = err_from_is_err_and c.from_residual-in_err-message.result c.from_residual-in_err-message.ensures.1 in
     record {
-      lists = λ n. refused_with _ _ _ _ (p.1 ∙ ap Err p.2) (send_stops (A n) (code c.args.self.now.level.now) (bytes_from c.args.self.now.level.now) t c.args.at c.requires.legible c.requires.byte _ (ap (λ l. get_or l (c.args.at + 1) 0) (sym c.code.ensures)) c.in-ok-named.named c.in-ok-named.middle c.in-ok-named.ensures _ c.in-err-message.ensures);
+      lists = λ n. refused_with _ _ _ _ (p.1 ∙ ap Err p.2) (send_stops (A n) (code c.args.self.now.level.now) (bytes_from c.args.self.now.level.now) t c.args.at c.requires.legible c.requires.byte _ (ap (λ l. get_or l (c.args.at + 1) 0) (sym c.code.ensures)) c.in_ok-named.named c.in_ok-named.middle c.in_ok-named.ensures _ c.in_err-message.ensures);
       kept = search rules;
     }
 
-pub returns-in-err-piece : goal.returns-in-err-piece
-returns-in-err-piece g c =
+pub returns-in_err-piece : goal.returns-in_err-piece
+returns-in_err-piece g c =
     let A : ℕ → Around = λ n. around g.M.Mail.trays g.M.Mail.limit c.args.self.now (record { changes = n; parcels = room c.args.parcels.now }) in
     let t : Lists = record { changes = held c.args.changes.now; parcels = held c.args.parcels.now } in
-    let p = err_from_is_err_and c.from-residual-in-err-piece.result c.from-residual-in-err-piece.ensures.1 in
-    let e : SFits w32 c.in-ok-named.named = search rules in
-    let m = missing_named _ _ _ c.in-err-piece.ensures in
+    let p = err_from_is_err_and c.from_residual-in_err-piece.result c.from_residual-in_err-piece.ensures.1 in
+    let e : SFits w32 c.in_ok-named.named = search rules in
+    let m = missing_named _ _ _ c.in_err-piece.ensures in
     let k = simp to_z-of_z at (m.0 ∙ c.piece_named.ensures) in
     record {
-      lists = λ n. refused_with _ _ _ _ (p.1 ∙ ap Err (p.2 ∙ ap Stumbles m.1)) (send_misses (A n) (code c.args.self.now.level.now) (bytes_from c.args.self.now.level.now) t c.args.at c.requires.legible c.requires.byte _ (ap (λ l. get_or l (c.args.at + 1) 0) (sym c.code.ensures)) c.in-ok-named.named c.in-ok-named.middle c.in-ok-named.ensures c.in-ok-message.message c.in-ok-message.next c.in-ok-message.ensures k);
+      lists = λ n. refused_with _ _ _ _ (p.1 ∙ ap Err (p.2 ∙ ap Stumbles m.1)) (send_misses (A n) (code c.args.self.now.level.now) (bytes_from c.args.self.now.level.now) t c.args.at c.requires.legible c.requires.byte _ (ap (λ l. get_or l (c.args.at + 1) 0) (sym c.code.ensures)) c.in_ok-named.named c.in_ok-named.middle c.in_ok-named.ensures c.in_ok-message.message c.in_ok-message.next c.in_ok-message.ensures k);
       kept = search rules;
     }
 
-pub returns-in-err-send : goal.returns-in-err-send
-returns-in-err-send g c =
+pub returns-in_err-send : goal.returns-in_err-send
+returns-in_err-send g c =
     let A : ℕ → Around = λ n. around g.M.Mail.trays g.M.Mail.limit c.args.self.now (record { changes = n; parcels = room c.args.parcels.now }) in
     let t : Lists = record { changes = held c.args.changes.now; parcels = held c.args.parcels.now } in
-    let p = err_from_is_err_and c.from-residual-in-err-send.result c.from-residual-in-err-send.ensures.1 in
-    let e : SFits w32 c.in-ok-named.named = search rules in
-    let k = simp to_z-of_z at (found_named _ _ _ c.in-ok-piece.ensures ∙ c.piece_named.ensures) in
+    let p = err_from_is_err_and c.from_residual-in_err-send.result c.from_residual-in_err-send.ensures.1 in
+    let e : SFits w32 c.in_ok-named.named = search rules in
+    let k = simp to_z-of_z at (found_named _ _ _ c.in_ok-piece.ensures ∙ c.piece_named.ensures) in
     record {
-      lists = λ n. refused_with _ _ _ _ (p.1 ∙ ap Err p.2) (send_refused (A n) (code c.args.self.now.level.now) (bytes_from c.args.self.now.level.now) t c.args.at c.requires.legible c.requires.byte _ (ap (λ l. get_or l (c.args.at + 1) 0) (sym c.code.ensures)) c.in-ok-named.named c.in-ok-named.middle c.in-ok-named.ensures c.in-ok-message.message c.in-ok-message.next c.in-ok-message.ensures c.in-ok-piece.piece k _ c.in-err-send.ensures.list);
+      lists = λ n. refused_with _ _ _ _ (p.1 ∙ ap Err p.2) (send_refused (A n) (code c.args.self.now.level.now) (bytes_from c.args.self.now.level.now) t c.args.at c.requires.legible c.requires.byte _ (ap (λ l. get_or l (c.args.at + 1) 0) (sym c.code.ensures)) c.in_ok-named.named c.in_ok-named.middle c.in_ok-named.ensures c.in_ok-message.message c.in_ok-message.next c.in_ok-message.ensures c.in_ok-piece.piece k _ c.in_err-send.ensures.list);
       kept = search rules;
     }
 
@@ -89,9 +88,9 @@ pub returns : goal.returns
 returns g c =
     let A : ℕ → Around = λ n. around g.M.Mail.trays g.M.Mail.limit c.args.self.now (record { changes = n; parcels = room c.args.parcels.now }) in
     let t : Lists = record { changes = held c.args.changes.now; parcels = held c.args.parcels.now } in
-    let e : SFits w32 c.in-ok-named.named = search rules in
-    let k = simp to_z-of_z at (found_named _ _ _ c.in-ok-piece.ensures ∙ c.piece_named.ensures) in
+    let e : SFits w32 c.in_ok-named.named = search rules in
+    let k = simp to_z-of_z at (found_named _ _ _ c.in_ok-piece.ensures ∙ c.piece_named.ensures) in
     record {
-      lists = λ n. send_told (A n) (code c.args.self.now.level.now) (bytes_from c.args.self.now.level.now) t c.args.at c.requires.legible c.requires.byte _ (ap (λ l. get_or l (c.args.at + 1) 0) (sym c.code.ensures)) c.in-ok-named.named c.in-ok-named.middle c.in-ok-named.ensures c.in-ok-message.message c.in-ok-message.next c.in-ok-message.ensures c.in-ok-piece.piece k _ c.in-ok-send.ensures.list;
+      lists = λ n. send_told (A n) (code c.args.self.now.level.now) (bytes_from c.args.self.now.level.now) t c.args.at c.requires.legible c.requires.byte _ (ap (λ l. get_or l (c.args.at + 1) 0) (sym c.code.ensures)) c.in_ok-named.named c.in_ok-named.middle c.in_ok-named.ensures c.in_ok-message.message c.in_ok-message.next c.in_ok-message.ensures c.in_ok-piece.piece k _ c.in_ok-send.ensures.list;
       kept = search rules;
     }

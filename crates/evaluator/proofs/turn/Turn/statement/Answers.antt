@@ -1,4 +1,4 @@
-use Rattle.std.proofs.Common.{◌≡◌, [], length, get_or, sym, ap, ◌∙◌, arith, rules}
+use Rattle.std.proofs.Common.{[], length, get_or, ap, arith, rules}
 use Rattle.level.specs.Levels.{code}
 use Rattle.level.proofs.Legible.{bytes_from}
 use Rattle.evaluator.specs.Meeting.{Lists, Around, around}

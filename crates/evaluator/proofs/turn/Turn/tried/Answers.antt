@@ -1,4 +1,4 @@
-use Rattle.std.proofs.Common.{◌≡◌, sym, ap, ◌∙◌, w32, SFits, rules}
+use Rattle.std.proofs.Common.{◌∙◌, w32, SFits, rules}
 use Rattle.std.proofs.lemmas.Int.{to_z-of_z}
 use Rattle.level.specs.Entries.{transition_entry}
 use Rattle.level.specs.Levels.{meaning}
@@ -7,8 +7,8 @@ use Rattle.evaluator.specs.Trails.{held}
 use Rattle.evaluator.proofs.Trying.{guard_legible, nth_none, no_trial, tried_two, tried_one, tried_none}
 use Rattle.evaluator.proofs.turn.Turn.tried.Goals as goal
 
-pub returns-in-default : goal.returns-in-default
-returns-in-default g c = no_trial _ _ (nth_none transition_entry (placed (meaning c.args.self.now.level.now)) c.args.number c.in-default.ensures)
+pub returns-in_default : goal.returns-in_default
+returns-in_default g c = no_trial _ _ (nth_none transition_entry (placed (meaning c.args.self.now.level.now)) c.args.number c.in_default.ensures)
 
 pub trial-requires : goal.trial-requires
 trial-requires g c = guard_legible c.args.self.now (held c.args.changes.now) c.args.number c.in-Some.found c.in-Some.ensures

@@ -1,4 +1,4 @@
-use Rattle.std.proofs.Common.{◌≡◌, sym, ◌∙◌, rules}
+use Rattle.std.proofs.Common.{sym, ◌∙◌}
 use Rattle.evaluator.specs.Trails.{held}
 use Rattle.evaluator.proofs.Trying.{passed_by, tried_then}
 use Rattle.evaluator.proofs.turn.Turn.wanted.Goals as goal
