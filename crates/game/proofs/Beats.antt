@@ -1,8 +1,7 @@
 -- The moves of a beat, judged one after the other.
-use Rattle.std.proofs.Common.{◌≡◌, ℕ, suc, ◌+◌, ◌-◌, ◌*◌, ◌<◌, ◌≤◌, Bool, true, false, List, [], ◌∷◌, ◌++◌, map, length, get_or, take, drop, is_ok, Ok, Err, Result, sym, refl, ap, ◌∙◌, subst, append_assoc, append-nil, add-one, arith, length-append}
+use Rattle.std.proofs.Common.{◌≡◌, ℕ, suc, ◌+◌, ◌-◌, ◌≤◌, Bool, false, List, [], ◌∷◌, map, length, get_or, take, drop, Ok, Err, Result, sym, refl, ap, ◌∙◌, append_assoc, append-nil, add-one, arith, length-append}
 use Rattle.level.specs.Sound.{Sound}
 use Rattle.level.specs.Syntax.{Level}
-use Rattle.rules.specs.declared.fault.MoveFault.{MoveFault}
 use Rattle.rules.specs.declared.fault.Why.{Why}
 use Rattle.rules.specs.declared.moves.Move.{Move}
 use Rattle.rules.specs.Beat.{Earlier, nothing, and_so, judge, judge_all, in_turn, changes_of, parcels_of, changes, parcels}
@@ -12,7 +11,7 @@ use Rattle.rules.specs.Deed.{Deed, deed}
 use Rattle.rules.specs.Game.{Game}
 use Rattle.rules.proofs.Trails.{trails_suffice}
 use Rattle.evaluator.specs.Judging.{grown, checked, earlier_of}
-use Rattle.evaluator.specs.Meeting.{Lists, lists_or}
+use Rattle.evaluator.specs.Meeting.{Lists}
 use Rattle.game.specs.Judged.{all_lists, lists_if}
 use Rattle.game.specs.Settling.{front_moves}
 use Rattle.game.proofs.Fronts.{front_step, front_none}

@@ -1,5 +1,5 @@
 -- The transition of a number that belongs to a piece's kind, as the index has it.
-use Rattle.std.proofs.Common.{◌≡◌, ℕ, Bool, true, false, cond, eqb, List, map, Some, None, Option, sym, refl, ap, ◌∙◌, arith}
+use Rattle.std.proofs.Common.{◌≡◌, ℕ, Bool, true, false, cond, eqb, map, Some, None, Option, sym, refl, ap, ◌∙◌, arith}
 use Rattle.std.proofs.lemmas.Bool.{eq-eqb, ne_eqb}
 use Rattle.level.specs.declared.entry.PieceEntry.{PieceEntry}
 use Rattle.level.specs.declared.entry.TransitionEntry.{TransitionEntry}

@@ -1,8 +1,7 @@
 -- What settling does to a game with the moves, changes and parcels of a beat that passes is the beat's outcome.
-use Rattle.std.proofs.Common.{◌≡◌, ℕ, ◌<◌, Bool, true, false, cond, not, ◌||◌, eqb, ltb, List, [], ◌∷◌, map, length, Some, None, Option, sym, refl, ap, ◌∙◌, arith}
+use Rattle.std.proofs.Common.{◌≡◌, ℕ, ◌<◌, Bool, true, false, cond, eqb, ltb, List, [], ◌∷◌, map, length, Some, None, Option, sym, refl, ap, ◌∙◌, arith}
 use mathlib.Core.Path.{fun_ext}
 use Rattle.std.proofs.lemmas.Bool.{cond-true, cond-false, lt-ltb, le-ltb, ne_eqb, eqb-true, and_from, or_parts}
-use Rattle.mail.specs.declared.message.Message.{Message}
 use Rattle.mail.specs.Trays.{Trays, put_trays, take_trays}
 use Rattle.level.specs.Places.{Placed, placed}
 use Rattle.level.specs.Sound.{Each, Sound}

@@ -1,5 +1,5 @@
 -- What the rules say of a strike, by how the code's steps end.
-use Rattle.std.proofs.Common.{◌≡◌, ℕ, ◌+◌, ◌≤◌, Bool, true, false, cond, ◌&&◌, leb, List, [], ◌∷◌, map, length, is_ok, is_err, Some, None, Ok, Err, Option, Result, sym, refl, ap, ◌∙◌, subst, arith}
+use Rattle.std.proofs.Common.{◌≡◌, ℕ, ◌+◌, ◌≤◌, Bool, true, false, cond, ◌&&◌, leb, List, [], length, is_ok, is_err, Some, None, Ok, Err, Option, Result, sym, refl, ap, ◌∙◌, subst, arith}
 use Rattle.std.proofs.lemmas.Bool.{le-leb, leb-true, and_parts}
 use Rattle.level.specs.Sound.{Sound}
 use Rattle.rules.specs.declared.fault.CallFault.TheVariants.{Strike}
@@ -7,17 +7,16 @@ use Rattle.rules.specs.declared.fault.MoveFault.{MoveFault}
 use Rattle.rules.specs.declared.fault.StrikeFault.{StrikeFault}
 use Rattle.rules.specs.declared.fault.StrikeFault.TheVariants.{ShortTrail, NotMoves, AtMove}
 use Rattle.rules.specs.declared.moves.Move.{Move}
-use Rattle.rules.specs.Beat.{nothing, judge_all, changes, parcels, outcome}
-use Rattle.rules.specs.Calls.{Lent, full, strike, fire, Answer, accepted, refused, After, refuse, moves_of, move_of, struck, beat, listed, lent, call}
+use Rattle.rules.specs.Beat.{nothing, judge_all}
+use Rattle.rules.specs.Calls.{Lent, full, strike, fire, accepted, After, refuse, moves_of, move_of, struck, beat, listed, call}
 use Rattle.rules.specs.Checks.{Check, pass, fail}
-use Rattle.rules.specs.Deed.{deed}
 use Rattle.rules.specs.Game.{Game, Within, Setting}
 use Rattle.rules.specs.Single.{Step}
 use Rattle.rules.proofs.Refusals.{refusals_change_nothing}
 use Rattle.rules.proofs.Single.{fire_is_a_step}
 use Rattle.evaluator.specs.Meeting.{Lists}
 use Rattle.game.specs.Games.{EndsAsEnabled, strike_answer}
-use Rattle.game.specs.Judged.{all_lists, counted, lists_if, with_trails}
+use Rattle.game.specs.Judged.{all_lists, counted, lists_if}
 use Rattle.game.specs.Settling.{front_moves, settled}
 use Rattle.game.proofs.Counting.{count_is, count_not}
 use Rattle.game.proofs.Fronts.{moves_front}

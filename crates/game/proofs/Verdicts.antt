@@ -1,7 +1,6 @@
 -- What the code answers of one move is what the rules say of its deed.
-use Rattle.std.proofs.Common.{◌≡◌, ℕ, ◌+◌, ◌-◌, ◌<◌, ◌≤◌, Bool, true, false, cond, not, ◌&&◌, ◌||◌, eqb, ltb, List, [], ◌∷◌, ◌++◌, map, length, is_ok, Some, None, Ok, Err, Option, Result, sym, refl, ap, ◌∙◌, subst, ⊎_elim, append-nil, arith}
-use mathlib.Core.Path.{fun_ext}
-use Rattle.std.proofs.lemmas.Bool.{eq-eqb, ne_eqb}
+use Rattle.std.proofs.Common.{◌≡◌, ℕ, ◌+◌, ◌<◌, ◌≤◌, Bool, true, false, cond, not, ◌&&◌, ◌||◌, eqb, ltb, List, [], ◌∷◌, ◌++◌, map, length, is_ok, Some, None, Ok, Err, Option, Result, sym, refl, ap, ◌∙◌, subst, append-nil, arith}
+use Rattle.std.proofs.lemmas.Bool.{eq-eqb}
 use Rattle.std.proofs.lemmas.Bool.Decides.{nat_tests}
 use Rattle.mail.specs.declared.message.Message.{Message}
 use Rattle.mail.specs.Trays.{front}
@@ -16,12 +15,12 @@ use Rattle.level.specs.Syntax.{Piece, Level}
 use Rattle.level.specs.Tables.{nth}
 use Rattle.level.proofs.Held.{few_pieces, held_sound}
 use Rattle.rules.specs.declared.fault.Why.{Why}
-use Rattle.rules.specs.declared.fault.Why.TheVariants.{Unknown, MovesAlready, OtherState, NoMessage, Clash}
+use Rattle.rules.specs.declared.fault.Why.TheVariants.{Unknown, MovesAlready, NoMessage, Clash}
 use Rattle.rules.specs.declared.moves.Act.TheVariants.{Transition, Discard}
 use Rattle.rules.specs.Beat.{Earlier, left_in, along, judge, and_so, changes_of, parcels_of}
 use Rattle.rules.specs.Calls.{Lent}
 use Rattle.rules.specs.Checks.{Check, pass, fail}
-use Rattle.rules.specs.Deed.{Deed, transit_by, discard_by, deed, bears, takes_from, transit_deed, discard_deed}
+use Rattle.rules.specs.Deed.{Deed, transit_by, discard_by, deed, bears, transit_deed, discard_deed}
 use Rattle.rules.specs.Game.{Game}
 use Rattle.rules.specs.Names.{transition_of}
 use Rattle.rules.specs.Trace.{Event, reads, writes, sends, unwanted}
@@ -33,7 +32,7 @@ use Rattle.evaluator.specs.Meeting.{Lists, Around, transiting, transiting_by, li
 use Rattle.evaluator.specs.Reckoning.{follow, valued}
 use Rattle.evaluator.specs.Trying.{discarded}
 use Rattle.evaluator.proofs.Trying.{nth_below}
-use Rattle.evaluator.proofs.Bridge.{Finds, Leaves, transit_judged, taking_judged, discard_judged, earlier_more}
+use Rattle.evaluator.proofs.Bridge.{Finds, transit_judged, taking_judged, discard_judged, earlier_more}
 use Rattle.game.specs.Judged.{entry_of, bearing, awaited}
 use Rattle.game.proofs.Finding.{entry_some, stands_in, has_piece, piece_some}
 

@@ -1,18 +1,16 @@
 -- What the code's judging answers, step by step. This is scaffolding between the rules and the code: no public promise speaks of it.
-use Rattle.std.specs.Prelude.{ℕ, ◌+◌, Bool, true, false, cond, ◌&&◌, List, [], ◌∷◌, ◌++◌, map, length, Some, None, Ok, Err, Option, Result, ◌==◌, nat_le}
+use Rattle.std.specs.Prelude.{ℕ, ◌+◌, Bool, cond, ◌&&◌, List, ◌++◌, map, length, Some, None, Ok, Err, Option, Result, ◌==◌, nat_le}
 use Rattle.mail.specs.declared.message.Message.{Message}
 use Rattle.level.specs.declared.entry.TransitionEntry.{TransitionEntry}
 use Rattle.level.specs.Entries.{transition_entry}
 use Rattle.level.specs.Places.{Placed}
 use Rattle.level.specs.Syntax.{Level}
-use Rattle.rules.specs.declared.fault.MoveFault.{MoveFault}
 use Rattle.rules.specs.declared.fault.StrikeFault.{StrikeFault}
 use Rattle.rules.specs.declared.fault.StrikeFault.TheVariants.{NotMoves}
 use Rattle.rules.specs.declared.fault.Why.{Why}
 use Rattle.rules.specs.declared.fault.Why.TheVariants.{NoMessage, Clash}
 use Rattle.rules.specs.declared.moves.Move.{Move}
 use Rattle.rules.specs.Beat.{changes, parcels}
-use Rattle.rules.specs.Calls.{moves_of}
 use Rattle.rules.specs.Checks.{Check, pass, fail}
 use Rattle.rules.specs.Deed.{deed}
 use Rattle.rules.specs.Game.{Game}

@@ -1,4 +1,6 @@
 // Games, and the calls on them.
+#![tactic(auto)]
+
 mod board;
 mod judging;
 mod looking;

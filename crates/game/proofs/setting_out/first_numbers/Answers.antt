@@ -1,4 +1,3 @@
-use Rattle.std.proofs.Common.{rules}
 use Rattle.level.specs.Levels.{meaning}
 use Rattle.level.specs.Sound.{counts}
 use Rattle.game.proofs.Rows.{start_some, start_none}

@@ -1,4 +1,3 @@
-use Rattle.std.proofs.Common.{rules}
 use Rattle.level.specs.Levels.{meaning}
 use Rattle.game.specs.Games.{means, setting, lent}
 use Rattle.game.proofs.Strikes.{fired_step, enabled_fires}

@@ -1,13 +1,13 @@
-use Rattle.std.proofs.Common.{◌≡◌, ◌≤◌, [], length, get_or, sym, refl, ap, ◌∙◌, arith, rules, ltb-false, ltb-true}
+use Rattle.std.proofs.Common.{◌≡◌, ◌≤◌, [], length, get_or, refl, ap, ◌∙◌, arith, ltb-false, ltb-true}
 use Rattle.level.specs.Levels.{meaning}
 use Rattle.level.proofs.Held.{held_sound}
 use Rattle.rules.specs.Beat.{judge_all}
 use Rattle.evaluator.specs.Judging.{earlier_of}
 use Rattle.evaluator.specs.Listing.{moved_in, took_in}
 use Rattle.evaluator.specs.Meeting.{Lists}
-use Rattle.evaluator.specs.Trails.{held, room}
+use Rattle.evaluator.specs.Trails.{held}
 use Rattle.game.specs.Games.{means}
-use Rattle.game.specs.Judged.{all_lists, lists_if}
+use Rattle.game.specs.Judged.{all_lists}
 use Rattle.game.specs.Settling.{front_moves}
 use Rattle.game.proofs.Beats.{ends_badly, ends_well, at_first, refused_here, judged_on, listed_on, fewer_left, more_changes, more_parcels, judged_end, listed_end}
 use Rattle.game.proofs.board.Game.judge_all.Goals as goal
@@ -35,7 +35,7 @@ judge-requires g c =
     let h : 3 ≤ length c.loop-left.left.now = omega (arith, ltb-false) in
     let e : get_or c.loop-left.left.now 0 0 ≡ 0x51 = omega arith in
     let i = c.loop-left.invariant in
-    let n = fewer_left g.M.Mail.limit (meaning c.args.level.now) (means g.M.Mail.trays c.args.self.now) (earlier_of (moved_in c.loop-left.listed) (took_in c.loop-left.listed) t) t t c.loop-left.place c.loop-left.left.now h e c.of-bytes-moving.result c.of-bytes-moving.ensures in
+    let n = fewer_left g.M.Mail.limit (meaning c.args.level.now) (means g.M.Mail.trays c.args.self.now) (earlier_of (moved_in c.loop-left.listed) (took_in c.loop-left.listed) t) t t c.loop-left.place c.loop-left.left.now h e c.of_bytes-moving.result c.of_bytes-moving.ensures in
     let j = i.2 in
     let p = i.3 in
     let q = i.4 in
@@ -50,7 +50,7 @@ returns-in-Err g c =
     let h : 3 ≤ length c.loop-left.left.now = omega (arith, ltb-false) in
     let e : get_or c.loop-left.left.now 0 0 ≡ 0x51 = omega arith in
     let i = c.loop-left.invariant in
-    let k = refused_here g.M.Mail.limit (meaning c.args.level.now) (means g.M.Mail.trays c.args.self.now) (earlier_of (moved_in c.loop-left.listed) (took_in c.loop-left.listed) t) t t c.loop-left.place c.loop-left.left.now h e c.of-bytes-moving.result c.of-bytes-moving.ensures c.in-Err.why c.in-Err.ensures.lists in
+    let k = refused_here g.M.Mail.limit (meaning c.args.level.now) (means g.M.Mail.trays c.args.self.now) (earlier_of (moved_in c.loop-left.listed) (took_in c.loop-left.listed) t) t t c.loop-left.place c.loop-left.left.now h e c.of_bytes-moving.result c.of_bytes-moving.ensures c.in-Err.why c.in-Err.ensures.lists in
     let a = c.judge.ensures.changes in
     let b = c.judge.ensures.parcels in
     record {
@@ -67,16 +67,16 @@ loop-left-preserved g c =
     let i = c.loop-left.invariant in
     let k = c.in-Ok.ensures.lists in
     let s = c.in-Ok.ensures.earlier refl in
-    let n = fewer_left g.M.Mail.limit (meaning c.args.level.now) (means g.M.Mail.trays c.args.self.now) (earlier_of (moved_in c.loop-left.listed) (took_in c.loop-left.listed) t) t u c.loop-left.place c.loop-left.left.now h e c.of-bytes-moving.result c.of-bytes-moving.ensures in
-    let x = more_changes g.M.Mail.limit (meaning c.args.level.now) (means g.M.Mail.trays c.args.self.now) (earlier_of (moved_in c.loop-left.listed) (took_in c.loop-left.listed) t) t u c.loop-left.place c.loop-left.left.now h e c.of-bytes-moving.result c.of-bytes-moving.ensures k (held_sound c.args.level.now) in
-    let y = more_parcels g.M.Mail.limit (meaning c.args.level.now) (means g.M.Mail.trays c.args.self.now) (earlier_of (moved_in c.loop-left.listed) (took_in c.loop-left.listed) t) t u c.loop-left.place c.loop-left.left.now h e c.of-bytes-moving.result c.of-bytes-moving.ensures k (held_sound c.args.level.now) in
+    let n = fewer_left g.M.Mail.limit (meaning c.args.level.now) (means g.M.Mail.trays c.args.self.now) (earlier_of (moved_in c.loop-left.listed) (took_in c.loop-left.listed) t) t u c.loop-left.place c.loop-left.left.now h e c.of_bytes-moving.result c.of_bytes-moving.ensures in
+    let x = more_changes g.M.Mail.limit (meaning c.args.level.now) (means g.M.Mail.trays c.args.self.now) (earlier_of (moved_in c.loop-left.listed) (took_in c.loop-left.listed) t) t u c.loop-left.place c.loop-left.left.now h e c.of_bytes-moving.result c.of_bytes-moving.ensures k (held_sound c.args.level.now) in
+    let y = more_parcels g.M.Mail.limit (meaning c.args.level.now) (means g.M.Mail.trays c.args.self.now) (earlier_of (moved_in c.loop-left.listed) (took_in c.loop-left.listed) t) t u c.loop-left.place c.loop-left.left.now h e c.of_bytes-moving.result c.of_bytes-moving.ensures k (held_sound c.args.level.now) in
     let a = c.judge.ensures.changes in
     let b = c.judge.ensures.parcels in
     let p = i.3 in
     let q = i.4 in
     let j = i.2 in (
-      judged_on g.M.Mail.limit (meaning c.args.level.now) (means g.M.Mail.trays c.args.self.now) (earlier_of (moved_in c.loop-left.listed) (took_in c.loop-left.listed) t) t u c.loop-left.place c.loop-left.left.now h e c.of-bytes-moving.result c.of-bytes-moving.ensures k _ s ∙ i.0,
-      listed_on g.M.Mail.limit (meaning c.args.level.now) (means g.M.Mail.trays c.args.self.now) (earlier_of (moved_in c.loop-left.listed) (took_in c.loop-left.listed) t) t u c.loop-left.place c.loop-left.left.now h e c.of-bytes-moving.result c.of-bytes-moving.ensures k ∙ i.1,
+      judged_on g.M.Mail.limit (meaning c.args.level.now) (means g.M.Mail.trays c.args.self.now) (earlier_of (moved_in c.loop-left.listed) (took_in c.loop-left.listed) t) t u c.loop-left.place c.loop-left.left.now h e c.of_bytes-moving.result c.of_bytes-moving.ensures k _ s ∙ i.0,
+      listed_on g.M.Mail.limit (meaning c.args.level.now) (means g.M.Mail.trays c.args.self.now) (earlier_of (moved_in c.loop-left.listed) (took_in c.loop-left.listed) t) t u c.loop-left.place c.loop-left.left.now h e c.of_bytes-moving.result c.of_bytes-moving.ensures k ∙ i.1,
       omega arith,
       omega arith,
       omega arith,
@@ -84,8 +84,8 @@ loop-left-preserved g c =
       (b.0 ∙ i.6.0, b.1 ∙ i.6.1),
     )
 
-pub returns-in-default : goal.returns-in-default
-returns-in-default g c =
+pub returns-in_default : goal.returns-in_default
+returns-in_default g c =
     let t : Lists = record { changes = held c.loop-left.changes; parcels = held c.loop-left.parcels } in
     let s = earlier_of (moved_in c.loop-left.listed) (took_in c.loop-left.listed) t in
     let i = c.loop-left.invariant in
@@ -94,8 +94,8 @@ returns-in-default g c =
       lent = (i.5, i.6);
     }
 
-pub returns-in-default·2 : goal.returns-in-default·2
-returns-in-default·2 g c =
+pub returns-in_default-2 : goal.returns-in_default-2
+returns-in_default-2 g c =
     let t : Lists = record { changes = held c.loop-left.changes; parcels = held c.loop-left.parcels } in
     let s = earlier_of (moved_in c.loop-left.listed) (took_in c.loop-left.listed) t in
     let i = c.loop-left.invariant in

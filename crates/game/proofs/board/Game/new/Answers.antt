@@ -1,4 +1,3 @@
-use Rattle.std.proofs.Common.{rules}
 use Rattle.game.proofs.Rows.{unset}
 use Rattle.game.proofs.board.Game.new.Goals as goal
 

@@ -1,4 +1,4 @@
-use Rattle.std.proofs.Common.{◌≡◌, arith, rules}
+use Rattle.std.proofs.Common.{◌≡◌, arith}
 use Rattle.level.specs.Levels.{meaning}
 use Rattle.level.proofs.Held.{few_pieces}
 use Rattle.rules.proofs.Law.{runs_end_alike}
@@ -10,7 +10,7 @@ pub loop-piece-init : goal.loop-piece-init
 loop-piece-init g c = λ p h. absurd (omega arith)
 
 pub loop-piece-preserved : goal.loop-piece-preserved
-loop-piece-preserved g c = one_more (meaning c.args.level.now) c.loop-piece.self.table c.place.new.self c.loop-piece.piece _ c.loop-piece.invariant (omega arith) c.first-numbers-numbers.ensures c.place.ensures
+loop-piece-preserved g c = one_more (meaning c.args.level.now) c.loop-piece.self.table c.place.new.self c.loop-piece.piece _ c.loop-piece.invariant (omega arith) c.first_numbers-numbers.ensures c.place.ensures
 
 pub returns : goal.returns
 returns g c = record {

@@ -1,17 +1,17 @@
-use Rattle.std.proofs.Common.{arith, rules}
+use Rattle.std.proofs.Common.{arith}
 use Rattle.level.specs.Levels.{meaning}
 use Rattle.level.proofs.Held.{few_pieces}
 use Rattle.game.specs.Games.{means, setting}
 use Rattle.game.proofs.Taps.{no_signal, unused, tray_full, tray_open}
 use Rattle.game.proofs.board.Game.tap.Goals as goal
 
-pub returns-in-default : goal.returns-in-default
-returns-in-default g c =
+pub returns-in_default : goal.returns-in_default
+returns-in_default g c =
     let S = setting (meaning c.args.level.now) g.M.Mail.limit g.M.Mail.place in
     let G = means g.M.Mail.trays c.args.self.now in
     let counted = c.pieces.ensures in
     let inside = c.if-piece-pieces.false in
-    let e = no_signal S G c.args.piece c.args.message (omega arith) c.in-default.ensures in
+    let e = no_signal S G c.args.piece c.args.message (omega arith) c.in_default.ensures in
     record { answer = e.0; game = e.1 }
 
 pub returns-then-not-fits : goal.returns-then-not-fits

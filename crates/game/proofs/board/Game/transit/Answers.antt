@@ -4,8 +4,8 @@ use Rattle.level.specs.Places.{placed}
 use Rattle.game.proofs.OneMore.{no_entry, enters, takes, takes_none}
 use Rattle.game.proofs.board.Game.transit.Goals as goal
 
-pub returns-in-default : goal.returns-in-default
-returns-in-default g c = search (rules, no_entry)
+pub returns-in_default : goal.returns-in_default
+returns-in_default g c = search (rules, no_entry)
 
 pub returns-then-transition-ne0 : goal.returns-then-transition-ne0
 returns-then-transition-ne0 g c =
