@@ -462,8 +462,12 @@ mod tests {
                 change(0, 1, 9),
                 change(0, 1, 81),
             ]
+            .as_slice()
         );
-        assert_eq!(rt; parcels.entries(), [parcel(0, message(1, 81, 4))]);
+        assert_eq!(rt;
+            parcels.entries(),
+            [parcel(0, message(1, 81, 4))].as_slice()
+        );
         assert_eq!(rt; stands(&game, 0), (1, 4, 1));
         assert_eq!(rt; game.number(0, 1), 81);
         Ok(())
@@ -505,17 +509,15 @@ mod tests {
 
     #[test]
     fn shorter_trails_are_refused(rt: HostRuntime) {
-        let mut changes = [NO_CHANGE; 161];
-        let mut parcels = [NO_PARCEL; 129];
         assert_eq!(rt;
-            rung(&mut changes[0..159], &mut parcels[0..128]),
+            rung(&mut [NO_CHANGE; 159], &mut [NO_PARCEL; 128]),
             Err(StrikeFault::ShortTrail)
         );
         assert_eq!(rt;
-            rung(&mut changes[0..160], &mut parcels[0..127]),
+            rung(&mut [NO_CHANGE; 160], &mut [NO_PARCEL; 127]),
             Err(StrikeFault::ShortTrail)
         );
-        assert_eq!(rt; rung(&mut changes[0..160], &mut parcels[0..128]), Ok(1));
-        assert_eq!(rt; rung(&mut changes, &mut parcels), Ok(1));
+        assert_eq!(rt; rung(&mut [NO_CHANGE; 160], &mut [NO_PARCEL; 128]), Ok(1));
+        assert_eq!(rt; rung(&mut [NO_CHANGE; 161], &mut [NO_PARCEL; 129]), Ok(1));
     }
 }

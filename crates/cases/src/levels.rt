@@ -21,9 +21,8 @@ mod tests {
         }
     }
 
-    fn refused(rt: &impl Abort, bytes: &[u8], number: u8, byte: usize) -> Result<(), Fail> {
-        assert_eq!(rt; loading(bytes), Err((number, byte)));
-        Ok(())
+    fn refused(rt: &impl Abort, bytes: &[u8], number: u8, byte: usize, note: &str) {
+        assert_eq!(rt; loading(bytes), Err((number, byte)), "{note}");
     }
 
     fn accepted(rt: &impl Abort, bytes: &[u8], pieces: usize) {
@@ -32,325 +31,395 @@ mod tests {
 
     // Outside a command's operands.
     #[test]
-    fn bytes_that_are_no_commands(rt: HostRuntime) -> Result<(), Fail> {
-        refused(&rt, b"", 11, 0).note("nothing at all")?;
-        refused(&rt, b"\x07", 12, 0).note("no such command")?;
-        refused(&rt, b"\x06\x06", 12, 1).note("a byte after the end")?;
-        refused(&rt, b"\x06\x00", 12, 1).note("whatever it is")?;
-        refused(&rt, b"\x01", 11, 1).note("a signal without its operand")?;
-        refused(&rt, b"\x01\x00\x01", 11, 3).note("the second one")?;
-        refused(&rt, b"\x01\x00", 11, 2).note("no end")?;
-        refused(&rt, b"\x03\x00\x00\x00\xFF\xFF\x11\x00\x06", 12, 0).note(
+    fn bytes_that_are_no_commands(rt: HostRuntime) {
+        refused(&rt, b"", 11, 0, "nothing at all");
+        refused(&rt, b"\x07", 12, 0, "no such command");
+        refused(&rt, b"\x06\x06", 12, 1, "a byte after the end");
+        refused(&rt, b"\x06\x00", 12, 1, "whatever it is");
+        refused(&rt, b"\x01", 11, 1, "a signal without its operand");
+        refused(&rt, b"\x01\x00\x01", 11, 3, "the second one");
+        refused(&rt, b"\x01\x00", 11, 2, "no end");
+        refused(
+            &rt,
+            b"\x03\x00\x00\x00\xFF\xFF\x11\x00\x06",
+            12,
+            0,
             "a transition without a kind",
-        )?;
-        refused(&rt, b"\x05\x00\x00\x00\x00\x00\x06", 12, 0).note(
+        );
+        refused(
+            &rt,
+            b"\x05\x00\x00\x00\x00\x00\x06",
+            12,
+            0,
             "a starting number without a piece",
-        )?;
-        refused(&rt, b"\x02\x00\x01\x01\x00\x06", 12, 3).note("a signal after a kind")?;
-        refused(&rt, b"\x02\x00\x01\x04\x00\x01\x00\x06", 12, 5).note("a signal after a piece")?;
-        refused(&rt, b"\x02\x00\x01\x04\x00\x02\x00\x01\x06", 12, 5).note("a kind after a piece")
+        );
+        refused(
+            &rt,
+            b"\x02\x00\x01\x01\x00\x06",
+            12,
+            3,
+            "a signal after a kind",
+        );
+        refused(
+            &rt,
+            b"\x02\x00\x01\x04\x00\x01\x00\x06",
+            12,
+            5,
+            "a signal after a piece",
+        );
+        refused(
+            &rt,
+            b"\x02\x00\x01\x04\x00\x02\x00\x01\x06",
+            12,
+            5,
+            "a kind after a piece",
+        );
     }
 
     #[test]
-    fn operands_of_signals_kinds_and_pieces(rt: HostRuntime) -> Result<(), Fail> {
-        refused(&rt, b"\x01\x03\x06", 13, 0).note("three parameters")?;
-        refused(&rt, b"\x02", 11, 1).note("no operands")?;
-        refused(&rt, b"\x02\x00", 11, 2).note("one of two")?;
-        refused(&rt, b"\x02\x09", 11, 2).note("missing before wrong")?;
-        refused(&rt, b"\x02\x09\x01\x06", 13, 0).note("nine numbers")?;
-        refused(&rt, b"\x02\x00\x00\x06", 13, 0).note("no state")?;
-        refused(&rt, b"\x02\x00\x11\x06", 13, 0).note("seventeen states")?;
-        refused(&rt, b"\x04", 11, 1).note("a piece without its kind")?;
-        refused(&rt, b"\x04\x00\x06", 13, 0).note("no kind at all")?;
-        refused(&rt, b"\x02\x01\x01\x04\x01\x06", 13, 3).note("no such kind")?;
+    fn operands_of_signals_kinds_and_pieces(rt: HostRuntime) {
+        refused(&rt, b"\x01\x03\x06", 13, 0, "three parameters");
+        refused(&rt, b"\x02", 11, 1, "no operands");
+        refused(&rt, b"\x02\x00", 11, 2, "one of two");
+        refused(&rt, b"\x02\x09", 11, 2, "missing before wrong");
+        refused(&rt, b"\x02\x09\x01\x06", 13, 0, "nine numbers");
+        refused(&rt, b"\x02\x00\x00\x06", 13, 0, "no state");
+        refused(&rt, b"\x02\x00\x11\x06", 13, 0, "seventeen states");
+        refused(&rt, b"\x04", 11, 1, "a piece without its kind");
+        refused(&rt, b"\x04\x00\x06", 13, 0, "no kind at all");
+        refused(&rt, b"\x02\x01\x01\x04\x01\x06", 13, 3, "no such kind");
         refused(
             &rt,
             b"\x02\x01\x01\x04\x00\x05\x01\x00\x00\x00\x00\x06",
             13,
             5,
-        )
-        .note("no such number")?;
-        refused(&rt, b"\x02\x01\x01\x04\x00\x05\x01\x00\x00\x00", 11, 10).note(
+            "no such number",
+        );
+        refused(
+            &rt,
+            b"\x02\x01\x01\x04\x00\x05\x01\x00\x00\x00",
+            11,
+            10,
             "missing before wrong",
-        )
+        );
     }
 
     #[test]
-    fn operands_of_transitions(rt: HostRuntime) -> Result<(), Fail> {
-        refused(&rt, b"\x02\x01\x02\x03\x00\x01\x00\xFF", 11, 8).note("four of five operands")?;
-        refused(&rt, b"\x02\x01\x02\x03\x09\x01\x00\xFF", 11, 8).note("missing before wrong")?;
+    fn operands_of_transitions(rt: HostRuntime) {
+        refused(
+            &rt,
+            b"\x02\x01\x02\x03\x00\x01\x00\xFF",
+            11,
+            8,
+            "four of five operands",
+        );
+        refused(
+            &rt,
+            b"\x02\x01\x02\x03\x09\x01\x00\xFF",
+            11,
+            8,
+            "missing before wrong",
+        );
         refused(
             &rt,
             b"\x02\x01\x02\x03\x02\x01\x00\xFF\xFF\x11\x00\x06",
             13,
             3,
-        )
-        .note("no such source")?;
+            "no such source",
+        );
         refused(
             &rt,
             b"\x02\x01\x02\x03\x00\x02\x00\xFF\xFF\x11\x00\x06",
             13,
             3,
-        )
-        .note("no such target")?;
+            "no such target",
+        );
         refused(
             &rt,
             b"\x02\x01\x02\x03\x00\x01\x01\xFF\xFF\x11\x00\x06",
             13,
             3,
-        )
-        .note("no such signal")?;
+            "no such signal",
+        );
         refused(
             &rt,
             b"\x02\x01\x02\x03\x00\x01\x00\x00\xFF\x11\x00\x06",
             13,
             3,
-        )
-        .note("received where no parameter stands")?;
+            "received where no parameter stands",
+        );
         refused(
             &rt,
             b"\x02\x01\x02\x03\x00\x01\x00\xFF\x00\x11\x00\x06",
             13,
             3,
-        )
-        .note("or there")?;
+            "or there",
+        );
         refused(
             &rt,
             b"\x01\x01\x02\x01\x02\x03\x00\x01\x01\xFF\xFF\x11\x00\x06",
             13,
             5,
-        )
-        .note("no number for the parameter")?;
+            "no number for the parameter",
+        );
         refused(
             &rt,
             b"\x01\x01\x02\x01\x02\x03\x00\x01\x01\x01\xFF\x11\x00\x06",
             13,
             5,
-        )
-        .note("no such number")?;
+            "no such number",
+        );
         refused(
             &rt,
             b"\x01\x01\x02\x01\x02\x03\x00\x01\x01\x00\x00\x11\x00\x06",
             13,
             5,
-        )
-        .note("a second number")?;
+            "a second number",
+        );
         refused(
             &rt,
             b"\x01\x02\x02\x01\x02\x03\x00\x01\x01\x00\xFF\x11\x00\x06",
             13,
             5,
-        )
-        .note("no second number")
+            "no second number",
+        );
     }
 
     // The guard stands at byte 9.
     #[test]
-    fn expressions(rt: HostRuntime) -> Result<(), Fail> {
-        refused(&rt, b"\x02\x01\x01\x03\x00\x00\x00\xFF\xFF", 11, 9).note("no guard")?;
+    fn expressions(rt: HostRuntime) {
+        refused(
+            &rt,
+            b"\x02\x01\x01\x03\x00\x00\x00\xFF\xFF",
+            11,
+            9,
+            "no guard",
+        );
         refused(
             &rt,
             b"\x02\x01\x01\x03\x00\x00\x00\xFF\xFF\x09\x00\x06",
             12,
             9,
-        )
-        .note("not an expression")?;
+            "not an expression",
+        );
         refused(
             &rt,
             b"\x02\x01\x01\x03\x00\x00\x00\xFF\xFF\x1E\x00\x06",
             12,
             9,
-        )
-        .note("past the last command")?;
+            "past the last command",
+        );
         refused(
             &rt,
             b"\x02\x01\x01\x03\x00\x00\x00\xFF\xFF\x20\x00\x11\x00\x06",
             12,
             9,
-        )
-        .note("a statement")?;
+            "a statement",
+        );
         refused(
             &rt,
             b"\x02\x01\x01\x03\x00\x00\x00\xFF\xFF\x10\x00\x00\x00",
             11,
             13,
-        )
-        .note("three bytes of four")?;
-        refused(&rt, b"\x02\x01\x01\x03\x00\x00\x00\xFF\xFF\x12", 11, 10).note(
+            "three bytes of four",
+        );
+        refused(
+            &rt,
+            b"\x02\x01\x01\x03\x00\x00\x00\xFF\xFF\x12",
+            11,
+            10,
             "an own number without its index",
-        )?;
+        );
         refused(
             &rt,
             b"\x02\x01\x01\x03\x00\x00\x00\xFF\xFF\x12\x01\x00\x06",
             13,
             9,
-        )
-        .note("no such own number")?;
+            "no such own number",
+        );
         refused(
             &rt,
             b"\x02\x01\x01\x03\x00\x00\x00\xFF\xFF\x13\x08\x11\x00\x06",
             13,
             9,
-        )
-        .note("index 8 of another piece")?;
-        refused(&rt, b"\x02\x01\x01\x03\x00\x00\x00\xFF\xFF\x13\x08", 13, 9).note(
+            "index 8 of another piece",
+        );
+        refused(
+            &rt,
+            b"\x02\x01\x01\x03\x00\x00\x00\xFF\xFF\x13\x08",
+            13,
+            9,
             "its operand is wrong before its expression is missing",
-        )?;
-        refused(&rt, b"\x02\x01\x01\x03\x00\x00\x00\xFF\xFF\x14\x11", 11, 11).note(
+        );
+        refused(
+            &rt,
+            b"\x02\x01\x01\x03\x00\x00\x00\xFF\xFF\x14\x11",
+            11,
+            11,
             "no right side",
-        )?;
+        );
         refused(
             &rt,
             b"\x02\x01\x01\x03\x00\x00\x00\xFF\xFF\x14\x11\x00",
             12,
             11,
-        )
-        .note("an end for the right side")
+            "an end for the right side",
+        );
     }
 
     // Eight deep is read, and the ninth stands at byte 17.
     #[test]
-    fn the_ninth_depth(rt: HostRuntime) -> Result<(), Fail> {
+    fn the_ninth_depth(rt: HostRuntime) {
         refused(
             &rt,
             b"\x02\x01\x01\x03\x00\x00\x00\xFF\xFF\x1D\x1D\x1D\x1D\x1D\x1D\x1D\x1D\x11\x00\x06",
             14,
             17,
-        )
-        .note("any expression there")?;
+            "any expression there",
+        );
         refused(
             &rt,
             b"\x02\x01\x01\x03\x00\x00\x00\xFF\xFF\x1D\x1D\x1D\x1D\x1D\x1D\x1D\x1D\x09\x00\x06",
             12,
             17,
-        )
-        .note("not a command comes first")?;
+            "not a command comes first",
+        );
         refused(
             &rt,
             b"\x02\x01\x01\x03\x00\x00\x00\xFF\xFF\x1D\x1D\x1D\x1D\x1D\x1D\x1D\x1D\x10\x00",
             14,
             17,
-        )
-        .note("missing operands come after")?;
+            "missing operands come after",
+        );
         refused(
             &rt,
             b"\x02\x01\x01\x03\x00\x00\x00\xFF\xFF\x1D\x1D\x1D\x1D\x1D\x1D\x1D\x1D\x12\x09\x00\x06",
             14,
             17,
-        )
-        .note("wrong ones too")?;
+            "wrong ones too",
+        );
         refused(
             &rt,
             b"\x02\x01\x01\x03\x00\x00\x00\xFF\xFF\x1D\x1D\x1D\x1D\x1D\x1D\x1D\x1D",
             11,
             17,
-        )
-        .note("nothing there")
+            "nothing there",
+        );
     }
 
     // The effect stands at byte 10.
     #[test]
-    fn statements(rt: HostRuntime) -> Result<(), Fail> {
-        refused(&rt, b"\x02\x01\x01\x03\x00\x00\x00\xFF\xFF\x11", 11, 10).note("no effect")?;
+    fn statements(rt: HostRuntime) {
+        refused(
+            &rt,
+            b"\x02\x01\x01\x03\x00\x00\x00\xFF\xFF\x11",
+            11,
+            10,
+            "no effect",
+        );
         refused(
             &rt,
             b"\x02\x01\x01\x03\x00\x00\x00\xFF\xFF\x11\x07\x06",
             12,
             10,
-        )
-        .note("not a statement")?;
+            "not a statement",
+        );
         refused(
             &rt,
             b"\x02\x01\x01\x03\x00\x00\x00\xFF\xFF\x11\x23\x00\x06",
             12,
             10,
-        )
-        .note("past the last command")?;
-        refused(&rt, b"\x02\x01\x01\x03\x00\x00\x00\xFF\xFF\x11\x20", 11, 11).note(
+            "past the last command",
+        );
+        refused(
+            &rt,
+            b"\x02\x01\x01\x03\x00\x00\x00\xFF\xFF\x11\x20",
+            11,
+            11,
             "without its operand",
-        )?;
+        );
         refused(
             &rt,
             b"\x02\x01\x01\x03\x00\x00\x00\xFF\xFF\x11\x20\x01\x11\x00\x06",
             13,
             10,
-        )
-        .note("no such own number")?;
+            "no such own number",
+        );
         refused(
             &rt,
             b"\x02\x01\x01\x03\x00\x00\x00\xFF\xFF\x11\x21\x08\x11\x11\x00\x06",
             13,
             10,
-        )
-        .note("index 8 of another piece")?;
+            "index 8 of another piece",
+        );
         refused(
             &rt,
             b"\x02\x01\x01\x03\x00\x00\x00\xFF\xFF\x11\x22\x00\x11\x00\x06",
             13,
             10,
-        )
-        .note("signal 0")?;
+            "signal 0",
+        );
         refused(
             &rt,
             b"\x02\x01\x01\x03\x00\x00\x00\xFF\xFF\x11\x22\x01\x11\x00\x06",
             13,
             10,
-        )
-        .note("no such signal")?;
+            "no such signal",
+        );
         refused(
             &rt,
             b"\x02\x01\x01\x03\x00\x00\x00\xFF\xFF\x11\x20\x00\x11\x06",
             12,
             13,
-        )
-        .note("no end of the effect")?;
+            "no end of the effect",
+        );
         refused(
             &rt,
             b"\x01\x01\x02\x01\x01\x03\x00\x00\x00\xFF\xFF\x11\x22\x01\x11\x00\x06",
             12,
             15,
-        )
-        .note("an end for the parameter's value")
+            "an end for the parameter's value",
+        );
     }
 
     // Eight statements of three bytes are read, and the ninth stands at byte 34.
     #[test]
-    fn the_ninth_statement(rt: HostRuntime) -> Result<(), Fail> {
+    fn the_ninth_statement(rt: HostRuntime) {
         refused(
             &rt,
             b"\x02\x01\x01\x03\x00\x00\x00\xFF\xFF\x11\x20\x00\x11\x20\x00\x11\x20\x00\x11\x20\x00\x11\x20\x00\x11\x20\x00\x11\x20\x00\x11\x20\x00\x11\x20\x00\x11\x00\x06",
             14,
             34,
-        )
-        .note("any statement there")?;
+            "any statement there",
+        );
         refused(
             &rt,
             b"\x02\x01\x01\x03\x00\x00\x00\xFF\xFF\x11\x20\x00\x11\x20\x00\x11\x20\x00\x11\x20\x00\x11\x20\x00\x11\x20\x00\x11\x20\x00\x11\x20\x00\x11\x07",
             12,
             34,
-        )
-        .note("not a command comes first")?;
+            "not a command comes first",
+        );
         refused(
             &rt,
             b"\x02\x01\x01\x03\x00\x00\x00\xFF\xFF\x11\x20\x00\x11\x20\x00\x11\x20\x00\x11\x20\x00\x11\x20\x00\x11\x20\x00\x11\x20\x00\x11\x20\x00\x11\x22",
             14,
             34,
-        )
-        .note("missing operands come after")?;
+            "missing operands come after",
+        );
         refused(
             &rt,
             b"\x02\x01\x01\x03\x00\x00\x00\xFF\xFF\x11\x20\x00\x11\x20\x00\x11\x20\x00\x11\x20\x00\x11\x20\x00\x11\x20\x00\x11\x20\x00\x11\x20\x00\x11\x20\x09\x11\x00\x06",
             14,
             34,
-        )
-        .note("wrong ones too")?;
+            "wrong ones too",
+        );
         refused(
             &rt,
             b"\x02\x01\x01\x03\x00\x00\x00\xFF\xFF\x11\x20\x00\x11\x20\x00\x11\x20\x00\x11\x20\x00\x11\x20\x00\x11\x20\x00\x11\x20\x00\x11\x20\x00\x11",
             11,
             34,
-        )
-        .note("nothing there")
+            "nothing there",
+        );
     }
 
     #[test]
@@ -483,7 +552,8 @@ mod tests {
         assert_eq!(rt; longest.len(), 8192);
         accepted(&rt, longest.as_slice(), 1);
         let longer = items(rt.alloc(), first, 1364, start, b"\x06\x06")?;
-        refused(&rt, longer.as_slice(), 10, 0)
+        refused(&rt, longer.as_slice(), 10, 0, "one byte more");
+        Ok(())
     }
 
     // The lamp and the bell: two kinds with a transition each, and a piece of each.

@@ -1,4 +1,6 @@
 // The tests of all crates, and their worked cases.
+#![tactic(auto)]
+
 #[cfg(test)]
 mod calling;
 pub mod firing;

@@ -36,7 +36,10 @@ mod tests {
             ),
             Ok(2)
         );
-        assert_eq!(rt; changes.entries(), [change(1, 0, 9), change(0, 0, 30)]);
+        assert_eq!(rt;
+            changes.entries(),
+            [change(1, 0, 9), change(0, 0, 30)].as_slice()
+        );
         assert_eq!(rt; parcels.len(), 0);
         assert_eq!(rt; stands(game, 0), (1, 30, 0));
         assert_eq!(rt; stands(game, 1), (0, 9, 0));
@@ -89,7 +92,8 @@ mod tests {
         level: &Level,
         piece: u8,
         transition: u8,
-    ) -> Result<(), Fail> {
+        note: &str,
+    ) {
         let mut change_places = [NO_CHANGE; 160];
         let mut parcel_places = [NO_PARCEL; 128];
         let mut changes = Trail::new(&mut change_places);
@@ -101,12 +105,11 @@ mod tests {
         let mut struck_parcels = Trail::new(&mut struck_parcel_places);
         let moves = [0x51, piece, transition];
         let struck = other.strike(level, &moves, &mut struck_changes, &mut struck_parcels);
-        assert_eq!(rt; fired, struck);
-        assert_eq!(rt; changes.entries(), struck_changes.entries());
-        assert_eq!(rt; parcels.entries(), struck_parcels.entries());
-        assert_eq!(rt; stands(one, 0), stands(other, 0));
-        assert_eq!(rt; stands(one, 1), stands(other, 1));
-        Ok(())
+        assert_eq!(rt; fired, struck, "{note}");
+        assert_eq!(rt; changes.entries(), struck_changes.entries(), "{note}");
+        assert_eq!(rt; parcels.entries(), struck_parcels.entries(), "{note}");
+        assert_eq!(rt; stands(one, 0), stands(other, 0), "{note}");
+        assert_eq!(rt; stands(one, 1), stands(other, 1), "{note}");
     }
 
     #[test]
@@ -119,34 +122,43 @@ mod tests {
         other.set_out(&level);
         one.tap(&level, 0, message(1, 1, 0))?;
         other.tap(&level, 0, message(1, 1, 0))?;
-        alike(&rt, &mut one, &mut other, &level, 1, 0).note("no message")?;
-        alike(&rt, &mut one, &mut other, &level, 0, 0).note("takes and sends")?;
-        alike(&rt, &mut one, &mut other, &level, 0, 2).note("sends twice")?;
-        alike(&rt, &mut one, &mut other, &level, 1, 0xFF).note("a message that is wanted")?;
-        alike(&rt, &mut one, &mut other, &level, 9, 0xFF).note("no such piece")
+        alike(&rt, &mut one, &mut other, &level, 1, 0, "no message");
+        alike(&rt, &mut one, &mut other, &level, 0, 0, "takes and sends");
+        alike(&rt, &mut one, &mut other, &level, 0, 2, "sends twice");
+        alike(
+            &rt,
+            &mut one,
+            &mut other,
+            &level,
+            1,
+            0xFF,
+            "a message that is wanted",
+        );
+        alike(&rt, &mut one, &mut other, &level, 9, 0xFF, "no such piece");
+        Ok(())
     }
 
-    fn not_moves(rt: &impl Abort, bytes: &[u8]) -> Result<(), Fail> {
+    fn not_moves(rt: &impl Abort, bytes: &[u8], note: &str) {
         let mut game = Game::new(QueueMail::new());
         assert_eq!(rt;
             strike(&mut game, &Level::new(), bytes),
-            Err(StrikeFault::NotMoves)
+            Err(StrikeFault::NotMoves),
+            "{note}"
         );
-        Ok(())
     }
 
     // There is no piece at all, so every move is refused, but this comes first.
     #[test]
-    fn bytes_that_are_no_moves(rt: HostRuntime) -> Result<(), Fail> {
-        not_moves(&rt, b"").note("none")?;
-        not_moves(&rt, b"\x51").note("a piece is missing")?;
-        not_moves(&rt, b"\x51\x00").note("a transition is missing")?;
-        not_moves(&rt, b"\x51\x00\x00\x51").note("in the second move")?;
-        not_moves(&rt, b"\x50\x51\x00\x00\x52").note("with the bytes around a beat")?;
-        not_moves(&rt, b"\x52\x00\x00").note("another byte")?;
-        not_moves(&rt, b"\x51\x00\x00\x42\x00\x00").note("in the second move")?;
+    fn bytes_that_are_no_moves(rt: HostRuntime) {
+        not_moves(&rt, b"", "none");
+        not_moves(&rt, b"\x51", "a piece is missing");
+        not_moves(&rt, b"\x51\x00", "a transition is missing");
+        not_moves(&rt, b"\x51\x00\x00\x51", "in the second move");
+        not_moves(&rt, b"\x50\x51\x00\x00\x52", "with the bytes around a beat");
+        not_moves(&rt, b"\x52\x00\x00", "another byte");
+        not_moves(&rt, b"\x51\x00\x00\x42\x00\x00", "in the second move");
         let bytes = SEVENTEEN_MOVES;
-        not_moves(&rt, &bytes).note("one too many")
+        not_moves(&rt, &bytes, "one too many");
     }
 
     #[test]
@@ -550,7 +562,10 @@ mod tests {
             ),
             Ok(3)
         );
-        assert_eq!(rt; changes.entries(), [change(1, 0, 2), change(0, 0, 0)]);
+        assert_eq!(rt;
+            changes.entries(),
+            [change(1, 0, 2), change(0, 0, 0)].as_slice()
+        );
         assert_eq!(rt;
             parcels.entries(),
             [
@@ -559,6 +574,7 @@ mod tests {
                 parcel(1, message(2, 0, 0)),
                 parcel(1, message(2, 0, 0)),
             ]
+            .as_slice()
         );
         assert_eq!(rt;
             (game.waiting(0), game.waiting(1), game.waiting(2)),

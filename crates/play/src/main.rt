@@ -1,4 +1,6 @@
 // Reads a level from standard input, and shows its pieces as they are set out, or says why it is no level.
+#![tactic(auto)]
+
 ghost use Rattle.std.specs.Prelude.{◌≡◌};
 ghost use Rattle.play.specs.Input.{level_part};
 

@@ -1,4 +1,4 @@
-use Rattle.std.proofs.Common.{refl, arith, rules, ltb-false}
+use Rattle.std.proofs.Common.{refl, arith, ltb-false}
 use Rattle.play.proofs.Cut.{cut, all_of_it}
 use Rattle.play.proofs.level_part.Goals as goal
 
