@@ -54,7 +54,7 @@ impl<M: Mail> Game<M> {
         requires few { length (front_moves moves.now) ≤ 16 }
         requires empty { (held changes.old ≡ []) × (held parcels.old ≡ []) }
         requires full { (160 ≤ room changes.old) × (128 ≤ room parcels.old) }
-        ensures lists { with_trails result (record { changes = held changes.exit.now; parcels = held parcels.new }) ≡ lists_if (judge_all M.Mail.limit (means M.Mail.trays self.now) (meaning level.now) nothing 0 (front_moves moves.now)) (all_lists (meaning level.now) (means M.Mail.trays self.now) (record { changes = []; parcels = [] }) (front_moves moves.now)) }
+        ensures lists { with_trails result (record { changes = held changes.new; parcels = held parcels.new }) ≡ lists_if (judge_all M.Mail.limit (means M.Mail.trays self.now) (meaning level.now) nothing 0 (front_moves moves.now)) (all_lists (meaning level.now) (means M.Mail.trays self.now) (record { changes = []; parcels = [] }) (front_moves moves.now)) }
         ensures lent { Kept changes.old changes.new × Kept parcels.old parcels.new }
     {
         let mut listed = Listed::new();

@@ -17,7 +17,7 @@ use rules::trail::{Change, Parcel};
 
 impl<'a, 'b, 'c, 'd, 'e, M: Mail> Turn<'a, 'b, 'c, 'd, 'e, M> {
     // The value of the expression at a place, and the place after it.
-    pub fn expression(&self, at: usize, changes: &Trail<Change>) -> Result<(i32, usize), Why>
+    pub(crate) fn expression(&self, at: usize, changes: &Trail<Change>) -> Result<(i32, usize), Why>
         requires { legible (read_expr deepest 8 (drop at (code self.now.level.now))) ≡ true }
         ensures { result ≡ value_at (sight_of self.now (held changes.now)) at (read_expr deepest 8 (drop at (code self.now.level.now))) }
     {
