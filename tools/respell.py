@@ -4,8 +4,9 @@
 usage: python3 tools/respell.py        at the top of the repository
 
 A name is the repository's own if a file of specs/, or a lemma file of proofs/, has it with a dash and it is imported from no
-library. It is respelled in specs/, proofs/, the ghost text of src/ and the edits of must-fail/. Names that a check makes (in proofs/F/) and names of a library keep their dashes. The edits also get the tight
-projections and the library's words that port.py gives the text they stand in.
+library. It is respelled in specs/, proofs/, the ghost text of src/ and the edits of must-fail/. Names that a check makes (in
+proofs/F/) and names of a library keep their dashes. The edits of definitions also get the tight projections and the library's
+words that port.py gives the text they stand in.
 """
 
 import glob
