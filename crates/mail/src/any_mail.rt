@@ -14,8 +14,8 @@ pub fn two_in_one_out<M: Mail>(
     one: Message,
     other: Message,
 ) -> Result<Message, MailFault>
-    ensures answer { result ≡ two_in_one_out_answer M.Mail.limit M.Mail.place (M.Mail.trays mail.old) piece one other }
-    ensures after { M.Mail.trays mail.new ≡ two_in_one_out_trays M.Mail.limit M.Mail.place (M.Mail.trays mail.old) piece one other }
+    ensures answer { result ≡ two_in_one_out_answer M.Mail.LIMIT M.Mail.place (M.Mail.trays mail.old) piece one other }
+    ensures after { M.Mail.trays mail.new ≡ two_in_one_out_trays M.Mail.LIMIT M.Mail.place (M.Mail.trays mail.old) piece one other }
     ensures taken { result ≢ Err Empty }
     ensures longer { is_ok result ≡ true → length (M.Mail.trays mail.new piece) ≡ length (M.Mail.trays mail.old piece) + 1 }
 {

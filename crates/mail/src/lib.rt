@@ -9,12 +9,10 @@ ghost use Rattle.mail.specs.declared.message.Message.{Message};
 ghost use Rattle.mail.specs.Trays.{front, no_messages, put_answer, put_trays, take_answer, take_trays};
 
 use fault::MailFault;
-use limit::Limit;
 use message::Message;
 
 pub mod any_mail;
 pub mod fault;
-pub mod limit;
 pub mod message;
 mod places;
 pub mod queue;
@@ -22,8 +20,12 @@ mod tray;
 pub mod urgent;
 
 pub trait Mail {
-    // The limit as code reads it: a number from 1 to 8.
-    const LIMIT: Limit;
+    // How many messages a tray may hold: a number from 1 to 8, of the kind of mail and not of the mail, so no call
+    // changes it.
+    const LIMIT: usize;
+
+    // The same number, as the facts below name it.
+    ghost LIMIT: { ℕ };
 
     // What a mail means: for each piece the messages in its tray, the next one to be taken first.
     ghost trays: { Self → ℕ → List Message };
@@ -31,13 +33,6 @@ pub trait Mail {
     // The mail's rule of placing: how many of the messages in a tray stay before one that is put.
     // It sees that tray and that message alone.
     ghost place: { List Message → Message → ℕ };
-
-    // The limit as the facts below name it. It belongs to the kind of mail, so no call changes it.
-    ghost limit: { ℕ };
-
-    // The limit that the facts name, for code over any mail: a law cannot name the constant.
-    fn full_length() -> usize
-        ensures { result ≡ limit };
 
     // The first message of the tray, or none.
     fn look(&self, piece: u8) -> Option<Message>
@@ -49,8 +44,8 @@ pub trait Mail {
 
     // Inserts the message at its place. Refused over 31, and exactly at the limit's length; then no tray changes.
     fn put(&mut self, piece: u8, message: Message) -> Result<(), MailFault>
-        ensures answer { result ≡ put_answer limit (trays self.old) piece }
-        ensures after { trays self.new ≡ put_trays limit place (trays self.old) piece message };
+        ensures answer { result ≡ put_answer LIMIT (trays self.old) piece }
+        ensures after { trays self.new ≡ put_trays LIMIT place (trays self.old) piece message };
 
     // Takes the first message out and answers it. Refused over 31, and exactly on an empty tray; then no tray changes.
     fn take(&mut self, piece: u8) -> Result<Message, MailFault>
@@ -61,13 +56,13 @@ pub trait Mail {
     fn clear(&mut self)
         ensures { trays self.new ≡ no_messages };
 
-    ghost range: { (1 ≤ limit) × (limit ≤ 8) };
+    ghost range: { (1 ≤ LIMIT) × (LIMIT ≤ 8) };
 
     // A place is one in the tray, or just past its end.
     ghost within: { (l : List Message) (m : Message) → place l m ≤ length l };
 
     // No tray is ever longer than the limit.
-    ghost bounded: { (s : Self) (p : ℕ) → length (trays s p) ≤ limit };
+    ghost bounded: { (s : Self) (p : ℕ) → length (trays s p) ≤ LIMIT };
 
     // Only the pieces 0 to 31 have a tray.
     ghost beyond: { (s : Self) (p : ℕ) → 31 < p → trays s p ≡ [] };

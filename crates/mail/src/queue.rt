@@ -8,7 +8,6 @@ ghost use Rattle.mail.specs.Laws.{table_beyond, table_bounded};
 
 use crate::Mail;
 use crate::fault::MailFault;
-use crate::limit::Limit;
 use crate::message::Message;
 use crate::places::{insert_at, remove_first};
 
@@ -42,13 +41,13 @@ impl QueueMail {
 }
 
 impl Mail for QueueMail {
-    const LIMIT: Limit = Limit { value: 4 };
+    const LIMIT: usize = 4;
+
+    ghost LIMIT = { 4 };
 
     ghost trays = { λ s. queue_trays s.table };
 
     ghost place = { last_place };
-
-    ghost limit = { 4 };
 
     ghost range = { Prim.search rules };
 
@@ -57,10 +56,6 @@ impl Mail for QueueMail {
     ghost bounded = { λ s p. table_bounded s.table s.few p };
 
     ghost beyond = { λ s p h. table_beyond s.table s.counts p h };
-
-    fn full_length() -> usize {
-        Self::LIMIT.value
-    }
 
     fn look(&self, piece: u8) -> Option<Message> {
         if self.count(piece) == 0 {
@@ -81,7 +76,7 @@ impl Mail for QueueMail {
             return Err(MailFault::NoPiece);
         }
         let count = self.count(piece);
-        if count == Self::LIMIT.value {
+        if count == Self::LIMIT {
             return Err(MailFault::Full);
         }
         let p = piece as usize;

@@ -7,7 +7,6 @@ ghost use Rattle.mail.specs.Laws.{list_beyond, list_bounded, urgent_within};
 
 use crate::Mail;
 use crate::fault::MailFault;
-use crate::limit::Limit;
 use crate::message::Message;
 use crate::tray::Tray;
 
@@ -30,13 +29,13 @@ impl UrgentMail {
 }
 
 impl Mail for UrgentMail {
-    const LIMIT: Limit = Limit { value: 6 };
+    const LIMIT: usize = 6;
+
+    ghost LIMIT = { 6 };
 
     ghost trays = { λ s. urgent_trays s.trays };
 
     ghost place = { urgent_place };
-
-    ghost limit = { 6 };
 
     ghost range = { Prim.search rules };
 
@@ -45,10 +44,6 @@ impl Mail for UrgentMail {
     ghost bounded = { λ s p. list_bounded s.trays s.all s.few p };
 
     ghost beyond = { λ s p h. list_beyond s.trays s.all p h };
-
-    fn full_length() -> usize {
-        Self::LIMIT.value
-    }
 
     fn look(&self, piece: u8) -> Option<Message> {
         if self.count(piece) == 0 {
@@ -68,7 +63,7 @@ impl Mail for UrgentMail {
         if piece > 31 {
             return Err(MailFault::NoPiece);
         }
-        if self.count(piece) == Self::LIMIT.value {
+        if self.count(piece) == Self::LIMIT {
             return Err(MailFault::Full);
         }
         self.trays[piece as usize].insert(message);

@@ -10,8 +10,8 @@ returns g c =
     let at_p = λ (t : Trays). length (t p) in
     let one = c.in_ok-put.ensures in
     let two = c.in_ok-put-2.ensures in
-    let grown = ap at_p one.after ∙ put_longer m.limit m.place _ p _ g.met.M.Mail.within one.answer in
-    let grown-2 = ap at_p two.after ∙ put_longer m.limit m.place _ p _ g.met.M.Mail.within two.answer in
+    let grown = ap at_p one.after ∙ put_longer m.LIMIT m.place _ p _ g.met.M.Mail.within one.answer in
+    let grown-2 = ap at_p two.after ∙ put_longer m.LIMIT m.place _ p _ g.met.M.Mail.within two.answer in
     let t = m.trays c.put-2.new.self in
     let some : 0 < length (t p) = omega (arith, grown-2) in
     record {

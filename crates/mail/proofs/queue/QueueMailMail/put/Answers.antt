@@ -26,5 +26,5 @@ returns c =
     let ys = c.insert_at.new.places in
     let last : take (n + 1) ys ≡ insert (take n (take (p * 4 + 4 - p * 4) (drop (p * 4) s.table.places))) n c.args.message = search rules in
     let w =
-    queue_put s p c.if-piece-gt31.false ys c.insert_at.auto.places n c.args.message c.count-count.ensures c.if-count.false last in
+    queue_put s p c.if-piece-gt31.false ys c.insert_at.auto.places n c.args.message c.count-count.ensures c.if-count-eq-LIMIT.false last in
     record { answer = w.0; after = w.1 }

@@ -11,5 +11,5 @@ insert-requires c =
 
 pub returns : goal.returns
 returns c =
-    let w = urgent_put c.args.self.now c.args.piece c.if-piece-gt31.false c.count.result c.args.message _ c.count.ensures c.if-count.false c.insert.ensures.after in
+    let w = urgent_put c.args.self.now c.args.piece c.if-piece-gt31.false c.count.result c.args.message _ c.count.ensures c.if-count-eq-LIMIT.false c.insert.ensures.after in
     record { answer = w.0; after = w.1 }
