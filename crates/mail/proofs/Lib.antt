@@ -1,6 +1,4 @@
 -- Lemmas of this crate's proofs.
-pub mod Laying
+pub mod LaidTrays
 pub mod Lengths
 pub mod Outcomes
-pub mod QueueTrays
-pub mod UrgentTrays

@@ -1,40 +1,21 @@
--- What the `impl`s of both mails cite for their laws: lemmas, and no definitions. They stand here since an `impl` may cite lemmas of specs/ alone.
-use Rattle.std.proofs.Common.{◌≡◌, ℕ, ◌<◌, ◌≤◌, List, [], ◌∷◌, length, get_or, ap, ⊎_elim, arith, length-take}
+-- What the `impl`s of a mail and of its rules cite for their laws: lemmas, and no definitions. They stand here since an `impl` may cite lemmas of specs/ alone.
+use Rattle.std.proofs.Common.{◌≡◌, ℕ, ◌<◌, ◌≤◌, List, [], ◌∷◌, length, get_or, arith, length-take}
 use Rattle.std.proofs.lemmas.List.{get_or_past}
-use Rattle.std.proofs.lemmas.Bool.{cases_lt}
 use Rattle.mail.specs.declared.message.Message.{Message}
-use Rattle.mail.specs.declared.queue.Table.{Table}
-use Rattle.mail.specs.declared.tray.Tray.{Tray}
-use Rattle.mail.specs.Queue.{queue_trays}
-use Rattle.mail.specs.Urgent.{urgent_place, urgent_trays, waiting, no_tray}
+use Rattle.mail.specs.Laid.{laid_trays}
+use Rattle.mail.specs.Urgent.{urgent_place}
 
-pub none_counted : (t : Table) (p : ℕ) → get_or t.counts p 0 ≡ 0 → queue_trays t p ≡ []
-unfolding queue_trays
-none_counted t p e = rw e
+module _ (limit : ℕ) (places : List Message) (counts : List ℕ) where
+  pub none_counted : (p : ℕ) → get_or counts p 0 ≡ 0 → laid_trays limit places counts p ≡ []
+  unfolding laid_trays
+  none_counted p e = rw e
 
-pub table_beyond : (t : Table) → length t.counts ≡ 32 → (p : ℕ) → 31 < p → queue_trays t p ≡ []
-table_beyond t counts p h = none_counted t p (get_or_past t.counts p 0 (omega arith))
+  pub laid_beyond : length counts ≡ 32 → (p : ℕ) → 31 < p → laid_trays limit places counts p ≡ []
+  laid_beyond all p h = none_counted p (get_or_past counts p 0 (omega arith))
 
-pub table_bounded : (t : Table) → ((p : ℕ) → get_or t.counts p 0 ≤ 4) → (p : ℕ) → length (queue_trays t p) ≤ 4
-unfolding queue_trays
-table_bounded t few p = let b = few p in simp length-take (omega arith)
-
-pub list_beyond : (ts : List Tray) → length ts ≡ 32 → (p : ℕ) → 31 < p → urgent_trays ts p ≡ []
-unfolding urgent_trays
-list_beyond ts all p h = ap waiting (get_or_past ts p no_tray (omega arith))
-
-pub list_bounded :
-    (ts : List Tray)
-    → length ts ≡ 32
-    → ((p : ℕ) → p ≤ 31 → (get_or ts p no_tray).count ≤ 6)
-    → (p : ℕ)
-    → length (urgent_trays ts p) ≤ 6
-unfolding urgent_trays
-list_bounded ts all few p =
-    ⊎_elim
-    (λ (h : 31 < p). omega (arith, ap length (list_beyond ts all p h)))
-    (λ (h : p ≤ 31). let b = few p h in simp length-take (omega arith))
-    (cases_lt 31 p)
+  pub laid_bounded : ((p : ℕ) → get_or counts p 0 ≤ limit) → (p : ℕ) → length (laid_trays limit places counts p) ≤ limit
+  unfolding laid_trays
+  laid_bounded few p = let b = few p in simp length-take (omega arith)
 
 pub urgent_within : (l : List Message) (m : Message) → urgent_place l m ≤ length l
 urgent_within [] m = omega arith

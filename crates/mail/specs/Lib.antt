@@ -4,5 +4,6 @@ pub mod Messages
 pub mod Trays
 pub mod Queue
 pub mod Urgent
+pub mod Laid
 pub mod TwoInOneOut
 pub mod Laws

@@ -14,9 +14,9 @@ use message::Message;
 pub mod any_mail;
 pub mod fault;
 pub mod message;
-mod places;
+pub mod placed;
+pub mod placing;
 pub mod queue;
-mod tray;
 pub mod urgent;
 
 pub trait Mail {
