@@ -91,7 +91,7 @@ impl<'a, 'b, 'c, 'd, 'e, M: Mail> Turn<'a, 'b, 'c, 'd, 'e, M> {
     fn assign(&self, at: usize, changes: &mut Trail<Change>) -> Result<usize, Why>
         requires legible { legible (read_stmt (meaning self.now.level.now).signals 8 (drop at (code self.now.level.now))) ≡ true }
         requires byte { slice_index (code self.now.level.now) at ≡ 0x20 }
-        ensures lists { (ps : List Parcel) (n : ℕ) → with_lists result (record { changes = held changes.new; parcels = ps }) ≡ step_at (around M.Mail.trays M.Mail.limit self.now (record { changes = room changes.old; parcels = n })) (record { changes = held changes.old; parcels = ps }) at (read_stmt (meaning self.now.level.now).signals 8 (drop at (code self.now.level.now))) }
+        ensures lists { (ps : List Parcel) (n : ℕ) → with_lists result (record { changes = held changes.new; parcels = ps }) ≡ step_at (around M.Mail.trays M.Mail.LIMIT self.now (record { changes = room changes.old; parcels = n })) (record { changes = held changes.old; parcels = ps }) at (read_stmt (meaning self.now.level.now).signals 8 (drop at (code self.now.level.now))) }
         ensures kept { Kept changes.old changes.new }
     {
         let number = self.level.code()[at + 1];
@@ -111,7 +111,7 @@ impl<'a, 'b, 'c, 'd, 'e, M: Mail> Turn<'a, 'b, 'c, 'd, 'e, M> {
     fn store(&self, at: usize, changes: &mut Trail<Change>) -> Result<usize, Why>
         requires legible { legible (read_stmt (meaning self.now.level.now).signals 8 (drop at (code self.now.level.now))) ≡ true }
         requires byte { slice_index (code self.now.level.now) at ≡ 0x21 }
-        ensures lists { (ps : List Parcel) (n : ℕ) → with_lists result (record { changes = held changes.new; parcels = ps }) ≡ step_at (around M.Mail.trays M.Mail.limit self.now (record { changes = room changes.old; parcels = n })) (record { changes = held changes.old; parcels = ps }) at (read_stmt (meaning self.now.level.now).signals 8 (drop at (code self.now.level.now))) }
+        ensures lists { (ps : List Parcel) (n : ℕ) → with_lists result (record { changes = held changes.new; parcels = ps }) ≡ step_at (around M.Mail.trays M.Mail.LIMIT self.now (record { changes = room changes.old; parcels = n })) (record { changes = held changes.old; parcels = ps }) at (read_stmt (meaning self.now.level.now).signals 8 (drop at (code self.now.level.now))) }
         ensures kept { Kept changes.old changes.new }
     {
         let number = self.level.code()[at + 1];
@@ -138,7 +138,7 @@ impl<'a, 'b, 'c, 'd, 'e, M: Mail> Turn<'a, 'b, 'c, 'd, 'e, M> {
     ) -> Result<usize, Why>
         requires legible { legible (read_stmt (meaning self.now.level.now).signals 8 (drop at (code self.now.level.now))) ≡ true }
         requires byte { slice_index (code self.now.level.now) at ≡ 0x22 }
-        ensures lists { (n : ℕ) → with_lists result (record { changes = held changes.now; parcels = held parcels.new }) ≡ step_at (around M.Mail.trays M.Mail.limit self.now (record { changes = n; parcels = room parcels.old })) (record { changes = held changes.now; parcels = held parcels.old }) at (read_stmt (meaning self.now.level.now).signals 8 (drop at (code self.now.level.now))) }
+        ensures lists { (n : ℕ) → with_lists result (record { changes = held changes.now; parcels = held parcels.new }) ≡ step_at (around M.Mail.trays M.Mail.LIMIT self.now (record { changes = n; parcels = room parcels.old })) (record { changes = held changes.now; parcels = held parcels.old }) at (read_stmt (meaning self.now.level.now).signals 8 (drop at (code self.now.level.now))) }
         ensures kept { Kept parcels.old parcels.new }
     {
         let signal = self.level.code()[at + 1];
@@ -157,7 +157,7 @@ impl<'a, 'b, 'c, 'd, 'e, M: Mail> Turn<'a, 'b, 'c, 'd, 'e, M> {
         parcels: &mut Trail<Parcel>,
     ) -> Result<usize, Why>
         requires { legible (read_stmt (meaning self.now.level.now).signals 8 (drop at (code self.now.level.now))) ≡ true }
-        ensures lists { with_lists result (record { changes = held changes.new; parcels = held parcels.new }) ≡ step_at (around M.Mail.trays M.Mail.limit self.now (record { changes = room changes.old; parcels = room parcels.old })) (record { changes = held changes.old; parcels = held parcels.old }) at (read_stmt (meaning self.now.level.now).signals 8 (drop at (code self.now.level.now))) }
+        ensures lists { with_lists result (record { changes = held changes.new; parcels = held parcels.new }) ≡ step_at (around M.Mail.trays M.Mail.LIMIT self.now (record { changes = room changes.old; parcels = room parcels.old })) (record { changes = held changes.old; parcels = held parcels.old }) at (read_stmt (meaning self.now.level.now).signals 8 (drop at (code self.now.level.now))) }
         ensures changes { Kept changes.old changes.new }
         ensures parcels { Kept parcels.old parcels.new }
     {
@@ -178,7 +178,7 @@ impl<'a, 'b, 'c, 'd, 'e, M: Mail> Turn<'a, 'b, 'c, 'd, 'e, M> {
         parcels: &mut Trail<Parcel>,
     ) -> Result<(), Why>
         requires { legible (read_effect (meaning self.now.level.now).signals 8 left (drop at (code self.now.level.now))) ≡ true }
-        ensures lists { lists_or result (record { changes = held changes.new; parcels = held parcels.new }) ≡ steps_at (around M.Mail.trays M.Mail.limit self.now (record { changes = room changes.old; parcels = room parcels.old })) (record { changes = held changes.old; parcels = held parcels.old }) at (read_effect (meaning self.now.level.now).signals 8 left (drop at (code self.now.level.now))) }
+        ensures lists { lists_or result (record { changes = held changes.new; parcels = held parcels.new }) ≡ steps_at (around M.Mail.trays M.Mail.LIMIT self.now (record { changes = room changes.old; parcels = room parcels.old })) (record { changes = held changes.old; parcels = held parcels.old }) at (read_effect (meaning self.now.level.now).signals 8 left (drop at (code self.now.level.now))) }
         ensures changes { Kept changes.old changes.new }
         ensures parcels { Kept parcels.old parcels.new }
     {
@@ -197,7 +197,7 @@ impl<'a, 'b, 'c, 'd, 'e, M: Mail> Turn<'a, 'b, 'c, 'd, 'e, M> {
         parcels: &mut Trail<Parcel>,
     ) -> Result<(), Why>
         requires { legible (read_effect (meaning self.now.level.now).signals 8 most_statements (drop at (code self.now.level.now))) ≡ true }
-        ensures lists { lists_or result (record { changes = held changes.new; parcels = held parcels.new }) ≡ steps_at (around M.Mail.trays M.Mail.limit self.now (record { changes = room changes.old; parcels = room parcels.old })) (record { changes = held changes.old; parcels = held parcels.old }) at (read_effect (meaning self.now.level.now).signals 8 most_statements (drop at (code self.now.level.now))) }
+        ensures lists { lists_or result (record { changes = held changes.new; parcels = held parcels.new }) ≡ steps_at (around M.Mail.trays M.Mail.LIMIT self.now (record { changes = room changes.old; parcels = room parcels.old })) (record { changes = held changes.old; parcels = held parcels.old }) at (read_effect (meaning self.now.level.now).signals 8 most_statements (drop at (code self.now.level.now))) }
         ensures changes { Kept changes.old changes.new }
         ensures parcels { Kept parcels.old parcels.new }
     {

@@ -161,7 +161,7 @@ impl<'a, 'b, 'c, 'd, 'e, M: Mail> Turn<'a, 'b, 'c, 'd, 'e, M> {
         changes: &mut Trail<Change>,
         parcels: &mut Trail<Parcel>,
     ) -> Result<(), Why>
-        ensures lists { lists_or result (record { changes = held changes.new; parcels = held parcels.new }) ≡ transiting_by (around M.Mail.trays M.Mail.limit self.now (record { changes = room changes.old; parcels = room parcels.old })) (record { changes = held changes.old; parcels = held parcels.old }) (nth (placed (meaning self.now.level.now)) number) message }
+        ensures lists { lists_or result (record { changes = held changes.new; parcels = held parcels.new }) ≡ transiting_by (around M.Mail.trays M.Mail.LIMIT self.now (record { changes = room changes.old; parcels = room parcels.old })) (record { changes = held changes.old; parcels = held parcels.old }) (nth (placed (meaning self.now.level.now)) number) message }
         ensures changes { Kept changes.old changes.new }
         ensures parcels { Kept parcels.old parcels.new }
     {

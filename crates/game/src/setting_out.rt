@@ -37,7 +37,7 @@ impl<M: Mail> Game<M> {
     // Every piece in state 0 with its starting numbers, every tray empty. Runs from here keep the law over runs.
     pub fn set_out(&mut self, level: &Level)
         ensures game { means M.Mail.trays self.new ≡ set_out (meaning level.now) }
-        ensures law { LawIn (setting (meaning level.now) M.Mail.limit M.Mail.place) }
+        ensures law { LawIn (setting (meaning level.now) M.Mail.LIMIT M.Mail.place) }
     {
         for piece in 0..32 {
             let numbers = first_numbers(level, piece);

@@ -26,7 +26,7 @@ fn write_all(table: &mut Table, changes: &[Change])
 
 // Each parcel goes into the tray of its piece. An accepted beat sends none that the mail refuses.
 fn put_all<M: Mail>(mail: &mut M, parcels: &[Parcel])
-    ensures { M.Mail.trays mail.new ≡ put_all M.Mail.limit M.Mail.place (M.Mail.trays mail.old) parcels.now }
+    ensures { M.Mail.trays mail.new ≡ put_all M.Mail.LIMIT M.Mail.place (M.Mail.trays mail.old) parcels.now }
 {
     for parcel in parcels {
         let _ = mail.put(parcel.piece, parcel.message);
@@ -84,7 +84,7 @@ impl<M: Mail> Game<M> {
         changes: &[Change],
         parcels: &[Parcel],
     )
-        ensures { means M.Mail.trays self.new ≡ settled (setting (meaning level.now) M.Mail.limit M.Mail.place) (means M.Mail.trays self.old) (front_moves moves.now) changes.now parcels.now }
+        ensures { means M.Mail.trays self.new ≡ settled (setting (meaning level.now) M.Mail.LIMIT M.Mail.place) (means M.Mail.trays self.old) (front_moves moves.now) changes.now parcels.now }
     {
         self.make_all(level, moves);
         write_all(&mut self.table, changes);

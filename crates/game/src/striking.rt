@@ -54,7 +54,7 @@ impl<M: Mail> Game<M> {
         requires few { length (front_moves moves.now) ≤ 16 }
         requires empty { (held changes.old ≡ []) × (held parcels.old ≡ []) }
         requires full { (160 ≤ room changes.old) × (128 ≤ room parcels.old) }
-        ensures lists { with_trails result (record { changes = held changes.new; parcels = held parcels.new }) ≡ lists_if (judge_all M.Mail.limit (means M.Mail.trays self.now) (meaning level.now) nothing 0 (front_moves moves.now)) (all_lists (meaning level.now) (means M.Mail.trays self.now) (record { changes = []; parcels = [] }) (front_moves moves.now)) }
+        ensures lists { with_trails result (record { changes = held changes.new; parcels = held parcels.new }) ≡ lists_if (judge_all M.Mail.LIMIT (means M.Mail.trays self.now) (meaning level.now) nothing 0 (front_moves moves.now)) (all_lists (meaning level.now) (means M.Mail.trays self.now) (record { changes = []; parcels = [] }) (front_moves moves.now)) }
         ensures lent { Kept changes.old changes.new × Kept parcels.old parcels.new }
     {
         let mut listed = Listed::new();
@@ -81,9 +81,9 @@ impl<M: Mail> Game<M> {
         parcels: &mut Trail<Parcel>,
     ) -> Result<usize, StrikeFault>
         requires { (held changes.old ≡ []) × (held parcels.old ≡ []) }
-        ensures answer { strike_answer result ≡ (call (setting (meaning level.now) M.Mail.limit M.Mail.place) (means M.Mail.trays self.old) (strike (lent changes.old parcels.old) moves.now)).answer }
-        ensures game { means M.Mail.trays self.new ≡ (call (setting (meaning level.now) M.Mail.limit M.Mail.place) (means M.Mail.trays self.old) (strike (lent changes.old parcels.old) moves.now)).game }
-        ensures trails { is_ok result ≡ true → (held changes.new ≡ (call (setting (meaning level.now) M.Mail.limit M.Mail.place) (means M.Mail.trays self.old) (strike (lent changes.old parcels.old) moves.now)).changes) × (held parcels.new ≡ (call (setting (meaning level.now) M.Mail.limit M.Mail.place) (means M.Mail.trays self.old) (strike (lent changes.old parcels.old) moves.now)).parcels) }
+        ensures answer { strike_answer result ≡ (call (setting (meaning level.now) M.Mail.LIMIT M.Mail.place) (means M.Mail.trays self.old) (strike (lent changes.old parcels.old) moves.now)).answer }
+        ensures game { means M.Mail.trays self.new ≡ (call (setting (meaning level.now) M.Mail.LIMIT M.Mail.place) (means M.Mail.trays self.old) (strike (lent changes.old parcels.old) moves.now)).game }
+        ensures trails { is_ok result ≡ true → (held changes.new ≡ (call (setting (meaning level.now) M.Mail.LIMIT M.Mail.place) (means M.Mail.trays self.old) (strike (lent changes.old parcels.old) moves.now)).changes) × (held parcels.new ≡ (call (setting (meaning level.now) M.Mail.LIMIT M.Mail.place) (means M.Mail.trays self.old) (strike (lent changes.old parcels.old) moves.now)).parcels) }
         ensures lent { Kept changes.old changes.new × Kept parcels.old parcels.new }
     {
         if !full(changes, parcels) {
@@ -104,10 +104,10 @@ impl<M: Mail> Game<M> {
         changes: &mut Trail<Change>,
         parcels: &mut Trail<Parcel>,
     ) -> Result<usize, StrikeFault>
-        ensures answer { strike_answer result ≡ (call (setting (meaning level.now) M.Mail.limit M.Mail.place) (means M.Mail.trays self.old) (strike (lent changes.old parcels.old) moves.now)).answer }
-        ensures game { means M.Mail.trays self.new ≡ (call (setting (meaning level.now) M.Mail.limit M.Mail.place) (means M.Mail.trays self.old) (strike (lent changes.old parcels.old) moves.now)).game }
-        ensures changes { held changes.new ≡ (call (setting (meaning level.now) M.Mail.limit M.Mail.place) (means M.Mail.trays self.old) (strike (lent changes.old parcels.old) moves.now)).changes }
-        ensures parcels { held parcels.new ≡ (call (setting (meaning level.now) M.Mail.limit M.Mail.place) (means M.Mail.trays self.old) (strike (lent changes.old parcels.old) moves.now)).parcels }
+        ensures answer { strike_answer result ≡ (call (setting (meaning level.now) M.Mail.LIMIT M.Mail.place) (means M.Mail.trays self.old) (strike (lent changes.old parcels.old) moves.now)).answer }
+        ensures game { means M.Mail.trays self.new ≡ (call (setting (meaning level.now) M.Mail.LIMIT M.Mail.place) (means M.Mail.trays self.old) (strike (lent changes.old parcels.old) moves.now)).game }
+        ensures changes { held changes.new ≡ (call (setting (meaning level.now) M.Mail.LIMIT M.Mail.place) (means M.Mail.trays self.old) (strike (lent changes.old parcels.old) moves.now)).changes }
+        ensures parcels { held parcels.new ≡ (call (setting (meaning level.now) M.Mail.LIMIT M.Mail.place) (means M.Mail.trays self.old) (strike (lent changes.old parcels.old) moves.now)).parcels }
         ensures lent { Kept changes.old changes.new × Kept parcels.old parcels.new }
     {
         changes.clear();
@@ -130,13 +130,13 @@ impl<M: Mail> Game<M> {
         changes: &mut Trail<Change>,
         parcels: &mut Trail<Parcel>,
     ) -> Result<usize, StrikeFault>
-        ensures answer { strike_answer result ≡ (call (setting (meaning level.now) M.Mail.limit M.Mail.place) (means M.Mail.trays self.old) (fire (lent changes.old parcels.old) piece transition)).answer }
-        ensures game { means M.Mail.trays self.new ≡ (call (setting (meaning level.now) M.Mail.limit M.Mail.place) (means M.Mail.trays self.old) (fire (lent changes.old parcels.old) piece transition)).game }
-        ensures changes { held changes.new ≡ (call (setting (meaning level.now) M.Mail.limit M.Mail.place) (means M.Mail.trays self.old) (fire (lent changes.old parcels.old) piece transition)).changes }
-        ensures parcels { held parcels.new ≡ (call (setting (meaning level.now) M.Mail.limit M.Mail.place) (means M.Mail.trays self.old) (fire (lent changes.old parcels.old) piece transition)).parcels }
+        ensures answer { strike_answer result ≡ (call (setting (meaning level.now) M.Mail.LIMIT M.Mail.place) (means M.Mail.trays self.old) (fire (lent changes.old parcels.old) piece transition)).answer }
+        ensures game { means M.Mail.trays self.new ≡ (call (setting (meaning level.now) M.Mail.LIMIT M.Mail.place) (means M.Mail.trays self.old) (fire (lent changes.old parcels.old) piece transition)).game }
+        ensures changes { held changes.new ≡ (call (setting (meaning level.now) M.Mail.LIMIT M.Mail.place) (means M.Mail.trays self.old) (fire (lent changes.old parcels.old) piece transition)).changes }
+        ensures parcels { held parcels.new ≡ (call (setting (meaning level.now) M.Mail.LIMIT M.Mail.place) (means M.Mail.trays self.old) (fire (lent changes.old parcels.old) piece transition)).parcels }
         ensures lent { Kept changes.old changes.new × Kept parcels.old parcels.new }
-        ensures step { is_ok result ≡ true → Step (setting (meaning level.now) M.Mail.limit M.Mail.place) (means M.Mail.trays self.old) (move_of piece transition) (means M.Mail.trays self.new) }
-        ensures enabled { full (lent changes.old parcels.old) ≡ true → EndsAsEnabled (setting (meaning level.now) M.Mail.limit M.Mail.place) (means M.Mail.trays self.old) (move_of piece transition) result (means M.Mail.trays self.new) }
+        ensures step { is_ok result ≡ true → Step (setting (meaning level.now) M.Mail.LIMIT M.Mail.place) (means M.Mail.trays self.old) (move_of piece transition) (means M.Mail.trays self.new) }
+        ensures enabled { full (lent changes.old parcels.old) ≡ true → EndsAsEnabled (setting (meaning level.now) M.Mail.LIMIT M.Mail.place) (means M.Mail.trays self.old) (move_of piece transition) result (means M.Mail.trays self.new) }
     {
         self.strike(level, &[0x51, piece, transition], changes, parcels)
     }

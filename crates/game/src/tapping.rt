@@ -24,8 +24,8 @@ fn fits(parameters: u8, message: Message) -> bool
 impl<M: Mail> Game<M> {
     // Puts one message into a piece's tray, and answers 1.
     pub fn tap(&mut self, level: &Level, piece: u8, message: Message) -> Result<usize, TapFault>
-        ensures answer { tap_answer result ≡ (call (setting (meaning level.now) M.Mail.limit M.Mail.place) (means M.Mail.trays self.old) (tap piece message)).answer }
-        ensures game { means M.Mail.trays self.new ≡ (call (setting (meaning level.now) M.Mail.limit M.Mail.place) (means M.Mail.trays self.old) (tap piece message)).game }
+        ensures answer { tap_answer result ≡ (call (setting (meaning level.now) M.Mail.LIMIT M.Mail.place) (means M.Mail.trays self.old) (tap piece message)).answer }
+        ensures game { means M.Mail.trays self.new ≡ (call (setting (meaning level.now) M.Mail.LIMIT M.Mail.place) (means M.Mail.trays self.old) (tap piece message)).game }
     {
         if piece as usize >= level.pieces() {
             return Err(TapFault::NoPiece);

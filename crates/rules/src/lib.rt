@@ -25,7 +25,7 @@ pub fn runs_end_alike() -> u8
 
 // The same at one mail: every type that is a mail shows those facts.
 pub fn runs_end_alike_with<M: Mail>() -> u8
-    ensures { (L : Level) → LawIn (record { level = L; limit = M.Mail.limit; place = M.Mail.place }) }
+    ensures { (L : Level) → LawIn (record { level = L; limit = M.Mail.LIMIT; place = M.Mail.place }) }
 {
     0
 }

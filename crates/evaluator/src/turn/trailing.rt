@@ -57,14 +57,14 @@ impl<'a, 'b, 'c, 'd, 'e, M: Mail> Turn<'a, 'b, 'c, 'd, 'e, M> {
 
     // A parcel more, unless an earlier move has sent to the piece or its tray is full.
     pub fn send(&self, parcel: Parcel, parcels: &mut Trail<Parcel>) -> Result<(), Why>
-        ensures list { with_list result (held parcels.new) ≡ send_to (left_of M.Mail.trays self.now) M.Mail.limit self.now.sent (room parcels.old) (held parcels.old) parcel }
+        ensures list { with_list result (held parcels.new) ≡ send_to (left_of M.Mail.trays self.now) M.Mail.LIMIT self.now.sent (room parcels.old) (held parcels.old) parcel }
         ensures kept { Kept parcels.old parcels.new }
     {
         if parcels_to(parcels.before(self.sent), parcel.piece) > 0 {
             return Err(Why::Clash);
         }
         let own = parcels_to(parcels.since(self.sent), parcel.piece);
-        if self.left(parcel.piece) + own == M::full_length() {
+        if self.left(parcel.piece) + own == M::LIMIT {
             return Err(Why::TrayFull);
         }
         parcels.push(parcel);

@@ -4,5 +4,5 @@ use Rattle.game.proofs.settling.put_all.Given as goal
 
 abbrev pub invariant-loop-parcel : goal.invariant-loop-parcel
 invariant-loop-parcel g l =
-    put_all g.M.Mail.limit g.M.Mail.place (g.M.Mail.trays l.mail) (drop l.parcel-index l.parcels)
-    ≡ put_all g.M.Mail.limit g.M.Mail.place (g.M.Mail.trays l.initial.mail) l.parcels
+    put_all g.M.Mail.LIMIT g.M.Mail.place (g.M.Mail.trays l.mail) (drop l.parcel-index l.parcels)
+    ≡ put_all g.M.Mail.LIMIT g.M.Mail.place (g.M.Mail.trays l.initial.mail) l.parcels

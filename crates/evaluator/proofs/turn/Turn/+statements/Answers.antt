@@ -11,13 +11,13 @@ use Rattle.evaluator.proofs.turn.Turn.+statements.Goals as goal
 
 pub bounds-code-at : goal.bounds-code-at
 bounds-code-at g t c =
-    let A : Around = around g.M.Mail.trays g.M.Mail.limit c.args.self.now (record { changes = room c.args.changes.now; parcels = room c.args.parcels.now }) in
+    let A : Around = around g.M.Mail.trays g.M.Mail.LIMIT c.args.self.now (record { changes = room c.args.changes.now; parcels = room c.args.parcels.now }) in
     let u : Lists = record { changes = held c.args.changes.now; parcels = held c.args.parcels.now } in
     let k = effect_inside A (code c.args.self.now.level.now) (bytes_from c.args.self.now.level.now) u c.args.left c.args.at c.requires in let e = ap length c.code.ensures in omega arith
 
 pub returns-then-code-at-eq0 : goal.returns-then-code-at-eq0
 returns-then-code-at-eq0 g t c =
-    let A : Around = around g.M.Mail.trays g.M.Mail.limit c.args.self.now (record { changes = room c.args.changes.now; parcels = room c.args.parcels.now }) in
+    let A : Around = around g.M.Mail.trays g.M.Mail.LIMIT c.args.self.now (record { changes = room c.args.changes.now; parcels = room c.args.parcels.now }) in
     let u : Lists = record { changes = held c.args.changes.now; parcels = held c.args.parcels.now } in
     record {
       lists = effect_end A (code c.args.self.now.level.now) (bytes_from c.args.self.now.level.now) u c.args.left c.args.at c.requires (ap (λ l. get_or l c.args.at 0) (sym c.code.ensures) ∙ c.if-code-at-eq0.true);
@@ -27,14 +27,14 @@ returns-then-code-at-eq0 g t c =
 
 pub statement-requires : goal.statement-requires
 statement-requires g t c =
-    let A : Around = around g.M.Mail.trays g.M.Mail.limit c.args.self.now (record { changes = room c.args.changes.now; parcels = room c.args.parcels.now }) in
+    let A : Around = around g.M.Mail.trays g.M.Mail.LIMIT c.args.self.now (record { changes = room c.args.changes.now; parcels = room c.args.parcels.now }) in
     let u : Lists = record { changes = held c.args.changes.now; parcels = held c.args.parcels.now } in
     let z : get_or (code c.args.self.now.level.now) c.args.at 0 ≡ 0 → ⊥ = λ e. c.if-code-at-eq0.false (ap (λ l. get_or l c.args.at 0) c.code.ensures ∙ e) in
     head_reads A (code c.args.self.now.level.now) (bytes_from c.args.self.now.level.now) u c.args.left c.args.at c.requires z
 
 pub returns-in_err-next : goal.returns-in_err-next
 returns-in_err-next g t c =
-    let A : Around = around g.M.Mail.trays g.M.Mail.limit c.args.self.now (record { changes = room c.args.changes.now; parcels = room c.args.parcels.now }) in
+    let A : Around = around g.M.Mail.trays g.M.Mail.LIMIT c.args.self.now (record { changes = room c.args.changes.now; parcels = room c.args.parcels.now }) in
     let u : Lists = record { changes = held c.args.changes.now; parcels = held c.args.parcels.now } in
     let z : get_or (code c.args.self.now.level.now) c.args.at 0 ≡ 0 → ⊥ = λ e. c.if-code-at-eq0.false (ap (λ l. get_or l c.args.at 0) c.code.ensures ∙ e) in
     let p = err_from_is_err_and c.from_residual.result c.from_residual.ensures.1 in
@@ -46,7 +46,7 @@ returns-in_err-next g t c =
 
 pub statements-requires : goal.statements-requires
 statements-requires g t c κs within =
-    let W : ℕ → ℕ → Around = λ m n. around g.M.Mail.trays g.M.Mail.limit c.args.self.now (record { changes = m; parcels = n }) in
+    let W : ℕ → ℕ → Around = λ m n. around g.M.Mail.trays g.M.Mail.LIMIT c.args.self.now (record { changes = m; parcels = n }) in
     let A : Around = W (room c.args.changes.now) (room c.args.parcels.now) in
     let u : Lists = record { changes = held c.args.changes.now; parcels = held c.args.parcels.now } in
     let v : Lists = record { changes = held c.statement.new.changes; parcels = held c.statement.new.parcels } in
@@ -56,7 +56,7 @@ statements-requires g t c κs within =
 
 pub returns : goal.returns
 returns g t c =
-    let W : ℕ → ℕ → Around = λ m n. around g.M.Mail.trays g.M.Mail.limit c.args.self.now (record { changes = m; parcels = n }) in
+    let W : ℕ → ℕ → Around = λ m n. around g.M.Mail.trays g.M.Mail.LIMIT c.args.self.now (record { changes = m; parcels = n }) in
     let A : Around = W (room c.args.changes.now) (room c.args.parcels.now) in
     let u : Lists = record { changes = held c.args.changes.now; parcels = held c.args.parcels.now } in
     let v : Lists = record { changes = held c.statement.new.changes; parcels = held c.statement.new.parcels } in

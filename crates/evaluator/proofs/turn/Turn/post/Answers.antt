@@ -11,31 +11,31 @@ use Rattle.evaluator.proofs.turn.Turn.post.Goals as goal
 
 pub overflow_add-signal : goal.overflow_add-signal
 overflow_add-signal g c =
-    let A : Around = around g.M.Mail.trays g.M.Mail.limit c.args.self.now (record { changes = 0; parcels = 0 }) in
+    let A : Around = around g.M.Mail.trays g.M.Mail.LIMIT c.args.self.now (record { changes = 0; parcels = 0 }) in
     let t : Lists = record { changes = held c.args.changes.now; parcels = [] } in
     let k = send_long A (code c.args.self.now.level.now) (bytes_from c.args.self.now.level.now) t c.args.at c.requires.legible c.requires.byte in search rules
 
 pub bounds-code-at : goal.bounds-code-at
 bounds-code-at g c =
-    let A : Around = around g.M.Mail.trays g.M.Mail.limit c.args.self.now (record { changes = 0; parcels = 0 }) in
+    let A : Around = around g.M.Mail.trays g.M.Mail.LIMIT c.args.self.now (record { changes = 0; parcels = 0 }) in
     let t : Lists = record { changes = held c.args.changes.now; parcels = [] } in
     let k = send_long A (code c.args.self.now.level.now) (bytes_from c.args.self.now.level.now) t c.args.at c.requires.legible c.requires.byte in let e = ap length c.code.ensures in omega arith
 
 pub overflow_add-at : goal.overflow_add-at
 overflow_add-at g c =
-    let A : Around = around g.M.Mail.trays g.M.Mail.limit c.args.self.now (record { changes = 0; parcels = 0 }) in
+    let A : Around = around g.M.Mail.trays g.M.Mail.LIMIT c.args.self.now (record { changes = 0; parcels = 0 }) in
     let t : Lists = record { changes = held c.args.changes.now; parcels = [] } in
     let k = send_long A (code c.args.self.now.level.now) (bytes_from c.args.self.now.level.now) t c.args.at c.requires.legible c.requires.byte in search rules
 
 pub expression-requires : goal.expression-requires
 expression-requires g c =
-    let A : Around = around g.M.Mail.trays g.M.Mail.limit c.args.self.now (record { changes = 0; parcels = 0 }) in
+    let A : Around = around g.M.Mail.trays g.M.Mail.LIMIT c.args.self.now (record { changes = 0; parcels = 0 }) in
     let t : Lists = record { changes = held c.args.changes.now; parcels = [] } in
     send_piece A (code c.args.self.now.level.now) (bytes_from c.args.self.now.level.now) t c.args.at c.requires.legible c.requires.byte
 
 pub returns-in_err-named : goal.returns-in_err-named
 returns-in_err-named g c =
-    let A : ℕ → Around = λ n. around g.M.Mail.trays g.M.Mail.limit c.args.self.now (record { changes = n; parcels = room c.args.parcels.now }) in
+    let A : ℕ → Around = λ n. around g.M.Mail.trays g.M.Mail.LIMIT c.args.self.now (record { changes = n; parcels = room c.args.parcels.now }) in
     let t : Lists = record { changes = held c.args.changes.now; parcels = held c.args.parcels.now } in
     let p = err_from_is_err_and c.from_residual.result c.from_residual.ensures.1 in
     record {
@@ -45,13 +45,13 @@ returns-in_err-named g c =
 
 pub message-requires : goal.message-requires
 message-requires g c =
-    let A : Around = around g.M.Mail.trays g.M.Mail.limit c.args.self.now (record { changes = 0; parcels = 0 }) in
+    let A : Around = around g.M.Mail.trays g.M.Mail.LIMIT c.args.self.now (record { changes = 0; parcels = 0 }) in
     let t : Lists = record { changes = held c.args.changes.now; parcels = [] } in
     message_reads A (code c.args.self.now.level.now) (bytes_from c.args.self.now.level.now) t c.args.at c.requires.legible c.requires.byte _ (ap (λ l. get_or l (c.args.at + 1) 0) (sym c.code.ensures)) c.in_ok-named.named c.in_ok-named.middle c.in_ok-named.ensures
 
 pub returns-in_err-message : goal.returns-in_err-message
 returns-in_err-message g c =
-    let A : ℕ → Around = λ n. around g.M.Mail.trays g.M.Mail.limit c.args.self.now (record { changes = n; parcels = room c.args.parcels.now }) in
+    let A : ℕ → Around = λ n. around g.M.Mail.trays g.M.Mail.LIMIT c.args.self.now (record { changes = n; parcels = room c.args.parcels.now }) in
     let t : Lists = record { changes = held c.args.changes.now; parcels = held c.args.parcels.now } in
     let p = err_from_is_err_and c.from_residual-in_err-message.result c.from_residual-in_err-message.ensures.1 in
     record {
@@ -61,7 +61,7 @@ returns-in_err-message g c =
 
 pub returns-in_err-piece : goal.returns-in_err-piece
 returns-in_err-piece g c =
-    let A : ℕ → Around = λ n. around g.M.Mail.trays g.M.Mail.limit c.args.self.now (record { changes = n; parcels = room c.args.parcels.now }) in
+    let A : ℕ → Around = λ n. around g.M.Mail.trays g.M.Mail.LIMIT c.args.self.now (record { changes = n; parcels = room c.args.parcels.now }) in
     let t : Lists = record { changes = held c.args.changes.now; parcels = held c.args.parcels.now } in
     let p = err_from_is_err_and c.from_residual-in_err-piece.result c.from_residual-in_err-piece.ensures.1 in
     let e : SFits w32 c.in_ok-named.named = search rules in
@@ -74,7 +74,7 @@ returns-in_err-piece g c =
 
 pub returns-in_err-send : goal.returns-in_err-send
 returns-in_err-send g c =
-    let A : ℕ → Around = λ n. around g.M.Mail.trays g.M.Mail.limit c.args.self.now (record { changes = n; parcels = room c.args.parcels.now }) in
+    let A : ℕ → Around = λ n. around g.M.Mail.trays g.M.Mail.LIMIT c.args.self.now (record { changes = n; parcels = room c.args.parcels.now }) in
     let t : Lists = record { changes = held c.args.changes.now; parcels = held c.args.parcels.now } in
     let p = err_from_is_err_and c.from_residual-in_err-send.result c.from_residual-in_err-send.ensures.1 in
     let e : SFits w32 c.in_ok-named.named = search rules in
@@ -86,7 +86,7 @@ returns-in_err-send g c =
 
 pub returns : goal.returns
 returns g c =
-    let A : ℕ → Around = λ n. around g.M.Mail.trays g.M.Mail.limit c.args.self.now (record { changes = n; parcels = room c.args.parcels.now }) in
+    let A : ℕ → Around = λ n. around g.M.Mail.trays g.M.Mail.LIMIT c.args.self.now (record { changes = n; parcels = room c.args.parcels.now }) in
     let t : Lists = record { changes = held c.args.changes.now; parcels = held c.args.parcels.now } in
     let e : SFits w32 c.in_ok-named.named = search rules in
     let k = simp to_z-of_z at (found_named _ _ _ c.in_ok-piece.ensures ∙ c.piece_named.ensures) in

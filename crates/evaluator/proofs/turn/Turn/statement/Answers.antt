@@ -8,14 +8,14 @@ use Rattle.evaluator.proofs.turn.Turn.statement.Goals as goal
 
 pub bounds-code-at : goal.bounds-code-at
 bounds-code-at g c =
-    let A : Around = around g.M.Mail.trays g.M.Mail.limit c.args.self.now (record { changes = 0; parcels = 0 }) in
+    let A : Around = around g.M.Mail.trays g.M.Mail.LIMIT c.args.self.now (record { changes = 0; parcels = 0 }) in
     let t : Lists = record { changes = []; parcels = [] } in
     let k = stmt_inside A (code c.args.self.now.level.now) (bytes_from c.args.self.now.level.now) t c.args.at c.requires in
     let e = ap length c.code.ensures in omega arith
 
 pub unreachable-requires : goal.unreachable-requires
 unreachable-requires g c =
-    let A : Around = around g.M.Mail.trays g.M.Mail.limit c.args.self.now (record { changes = 0; parcels = 0 }) in
+    let A : Around = around g.M.Mail.trays g.M.Mail.LIMIT c.args.self.now (record { changes = 0; parcels = 0 }) in
     let t : Lists = record { changes = []; parcels = [] } in
     let e = ap (λ l. get_or l c.args.at 0) c.code.ensures in
     no_stmt A (code c.args.self.now.level.now) (bytes_from c.args.self.now.level.now) t c.args.at c.requires (λ l u. omega arith)

@@ -12,31 +12,31 @@ use Rattle.evaluator.proofs.turn.Turn.store.Goals as goal
 
 pub overflow_add-number : goal.overflow_add-number
 overflow_add-number g c =
-    let A : Around = around g.M.Mail.trays g.M.Mail.limit c.args.self.now (record { changes = 0; parcels = 0 }) in
+    let A : Around = around g.M.Mail.trays g.M.Mail.LIMIT c.args.self.now (record { changes = 0; parcels = 0 }) in
     let t : Lists = record { changes = held c.args.changes.now; parcels = [] } in
     let k = store_long A (code c.args.self.now.level.now) (bytes_from c.args.self.now.level.now) t c.args.at c.requires.legible c.requires.byte in search rules
 
 pub bounds-code-at : goal.bounds-code-at
 bounds-code-at g c =
-    let A : Around = around g.M.Mail.trays g.M.Mail.limit c.args.self.now (record { changes = 0; parcels = 0 }) in
+    let A : Around = around g.M.Mail.trays g.M.Mail.LIMIT c.args.self.now (record { changes = 0; parcels = 0 }) in
     let t : Lists = record { changes = held c.args.changes.now; parcels = [] } in
     let k = store_long A (code c.args.self.now.level.now) (bytes_from c.args.self.now.level.now) t c.args.at c.requires.legible c.requires.byte in let e = ap length c.code.ensures in omega arith
 
 pub overflow_add-at : goal.overflow_add-at
 overflow_add-at g c =
-    let A : Around = around g.M.Mail.trays g.M.Mail.limit c.args.self.now (record { changes = 0; parcels = 0 }) in
+    let A : Around = around g.M.Mail.trays g.M.Mail.LIMIT c.args.self.now (record { changes = 0; parcels = 0 }) in
     let t : Lists = record { changes = held c.args.changes.now; parcels = [] } in
     let k = store_long A (code c.args.self.now.level.now) (bytes_from c.args.self.now.level.now) t c.args.at c.requires.legible c.requires.byte in search rules
 
 pub expression-requires : goal.expression-requires
 expression-requires g c =
-    let A : Around = around g.M.Mail.trays g.M.Mail.limit c.args.self.now (record { changes = 0; parcels = 0 }) in
+    let A : Around = around g.M.Mail.trays g.M.Mail.LIMIT c.args.self.now (record { changes = 0; parcels = 0 }) in
     let t : Lists = record { changes = held c.args.changes.now; parcels = [] } in
     store_first A (code c.args.self.now.level.now) (bytes_from c.args.self.now.level.now) t c.args.at c.requires.legible c.requires.byte
 
 pub returns-in_err-named : goal.returns-in_err-named
 returns-in_err-named g c =
-    let A : ℕ → Around = λ n. around g.M.Mail.trays g.M.Mail.limit c.args.self.now (record { changes = room c.args.changes.now; parcels = n }) in
+    let A : ℕ → Around = λ n. around g.M.Mail.trays g.M.Mail.LIMIT c.args.self.now (record { changes = room c.args.changes.now; parcels = n }) in
     let t : List Parcel → Lists = λ ps. record { changes = held c.args.changes.now; parcels = ps } in
     let p = err_from_is_err_and c.from_residual.result c.from_residual.ensures.1 in
     record {
@@ -46,13 +46,13 @@ returns-in_err-named g c =
 
 pub expression-requires-2 : goal.expression-requires-2
 expression-requires-2 g c =
-    let A : Around = around g.M.Mail.trays g.M.Mail.limit c.args.self.now (record { changes = 0; parcels = 0 }) in
+    let A : Around = around g.M.Mail.trays g.M.Mail.LIMIT c.args.self.now (record { changes = 0; parcels = 0 }) in
     let t : Lists = record { changes = held c.args.changes.now; parcels = [] } in
     store_second A (code c.args.self.now.level.now) (bytes_from c.args.self.now.level.now) t c.args.at c.requires.legible c.requires.byte c.in_ok-named.named c.in_ok-named.middle c.in_ok-named.ensures
 
 pub returns-in_err-value : goal.returns-in_err-value
 returns-in_err-value g c =
-    let A : ℕ → Around = λ n. around g.M.Mail.trays g.M.Mail.limit c.args.self.now (record { changes = room c.args.changes.now; parcels = n }) in
+    let A : ℕ → Around = λ n. around g.M.Mail.trays g.M.Mail.LIMIT c.args.self.now (record { changes = room c.args.changes.now; parcels = n }) in
     let t : List Parcel → Lists = λ ps. record { changes = held c.args.changes.now; parcels = ps } in
     let p = err_from_is_err_and c.from_residual-in_err-value.result c.from_residual-in_err-value.ensures.1 in
     record {
@@ -62,7 +62,7 @@ returns-in_err-value g c =
 
 pub returns-in_err-piece : goal.returns-in_err-piece
 returns-in_err-piece g c =
-    let A : ℕ → Around = λ n. around g.M.Mail.trays g.M.Mail.limit c.args.self.now (record { changes = room c.args.changes.now; parcels = n }) in
+    let A : ℕ → Around = λ n. around g.M.Mail.trays g.M.Mail.LIMIT c.args.self.now (record { changes = room c.args.changes.now; parcels = n }) in
     let t : List Parcel → Lists = λ ps. record { changes = held c.args.changes.now; parcels = ps } in
     let p = err_from_is_err_and c.from_residual-in_err-piece.result c.from_residual-in_err-piece.ensures.1 in
     let e : SFits w32 c.in_ok-named.named = search rules in
@@ -75,7 +75,7 @@ returns-in_err-piece g c =
 
 pub returns-in_err-write : goal.returns-in_err-write
 returns-in_err-write g c =
-    let A : ℕ → Around = λ n. around g.M.Mail.trays g.M.Mail.limit c.args.self.now (record { changes = room c.args.changes.now; parcels = n }) in
+    let A : ℕ → Around = λ n. around g.M.Mail.trays g.M.Mail.LIMIT c.args.self.now (record { changes = room c.args.changes.now; parcels = n }) in
     let t : List Parcel → Lists = λ ps. record { changes = held c.args.changes.now; parcels = ps } in
     let p = err_from_is_err_and c.from_residual-in_err-write.result c.from_residual-in_err-write.ensures.1 in
     let e : SFits w32 c.in_ok-named.named = search rules in
@@ -89,7 +89,7 @@ returns-in_err-write g c =
 
 pub returns : goal.returns
 returns g c =
-    let A : ℕ → Around = λ n. around g.M.Mail.trays g.M.Mail.limit c.args.self.now (record { changes = room c.args.changes.now; parcels = n }) in
+    let A : ℕ → Around = λ n. around g.M.Mail.trays g.M.Mail.LIMIT c.args.self.now (record { changes = room c.args.changes.now; parcels = n }) in
     let t : List Parcel → Lists = λ ps. record { changes = held c.args.changes.now; parcels = ps } in
     let e : SFits w32 c.in_ok-named.named = search rules in
     let f : SFits w32 c.in_ok-value.value = search rules in

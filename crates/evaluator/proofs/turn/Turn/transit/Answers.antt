@@ -17,7 +17,7 @@ pub returns-in_default : goal.returns-in_default
 returns-in_default g c =
     let n = nth_none transition_entry (placed (meaning c.args.self.now.level.now)) c.args.number c.in_default.ensures in
     record {
-      lists = sym (ap (λ o. transiting_by (around g.M.Mail.trays g.M.Mail.limit c.args.self.now (record { changes = room c.args.changes.now; parcels = room c.args.parcels.now })) (record { changes = held c.args.changes.now; parcels = held c.args.parcels.now }) o c.args.message) n);
+      lists = sym (ap (λ o. transiting_by (around g.M.Mail.trays g.M.Mail.LIMIT c.args.self.now (record { changes = room c.args.changes.now; parcels = room c.args.parcels.now })) (record { changes = held c.args.changes.now; parcels = held c.args.parcels.now }) o c.args.message) n);
       changes = search rules;
       parcels = search rules;
     }
@@ -26,7 +26,7 @@ pub returns-in_err-received : goal.returns-in_err-received
 returns-in_err-received g c =
     let p = err_from_is_err_and c.from_residual.result c.from_residual.ensures.1 in
     record {
-      lists = refused_or _ _ _ _ (p.1 ∙ ap Err p.2) (transit_halts g.M.Mail.trays g.M.Mail.limit c.args.self.now (record { changes = room c.args.changes.now; parcels = room c.args.parcels.now }) (held c.args.parcels.now) c.args.number c.in-Some.found c.in-Some.ensures (held c.args.changes.now) c.args.message _ c.in_err-received.ensures.list);
+      lists = refused_or _ _ _ _ (p.1 ∙ ap Err p.2) (transit_halts g.M.Mail.trays g.M.Mail.LIMIT c.args.self.now (record { changes = room c.args.changes.now; parcels = room c.args.parcels.now }) (held c.args.parcels.now) c.args.number c.in-Some.found c.in-Some.ensures (held c.args.changes.now) c.args.message _ c.in_err-received.ensures.list);
       changes = search rules;
       parcels = search rules;
     }
@@ -38,7 +38,7 @@ pub returns-in_err-value : goal.returns-in_err-value
 returns-in_err-value g c =
     let p = err_from_is_err_and c.from_residual-in_err-value.result c.from_residual-in_err-value.ensures.1 in
     record {
-      lists = refused_or _ _ _ _ (p.1 ∙ ap Err p.2) (transit_stops g.M.Mail.trays g.M.Mail.limit c.args.self.now (record { changes = room c.args.changes.now; parcels = room c.args.parcels.now }) (held c.args.parcels.now) c.args.number c.in-Some.found c.in-Some.ensures (held c.args.changes.now) c.args.message (held c.received.new.changes) c.in_ok-received.ensures.list _ c.in_err-value.ensures);
+      lists = refused_or _ _ _ _ (p.1 ∙ ap Err p.2) (transit_stops g.M.Mail.trays g.M.Mail.LIMIT c.args.self.now (record { changes = room c.args.changes.now; parcels = room c.args.parcels.now }) (held c.args.parcels.now) c.args.number c.in-Some.found c.in-Some.ensures (held c.args.changes.now) c.args.message (held c.received.new.changes) c.in_ok-received.ensures.list _ c.in_err-value.ensures);
       changes = search rules;
       parcels = search rules;
     }
@@ -48,7 +48,7 @@ returns-then-not-holds g c =
     let f : SFits w32 c.in_ok-value.value = search rules in
     let z = simp to_z-of_z at c.if-not-holds.ensures in
     record {
-      lists = transit_fails g.M.Mail.trays g.M.Mail.limit c.args.self.now (record { changes = room c.args.changes.now; parcels = room c.args.parcels.now }) (held c.args.parcels.now) c.args.number c.in-Some.found c.in-Some.ensures (held c.args.changes.now) c.args.message (held c.received.new.changes) c.in_ok-received.ensures.list c.in_ok-value.value _ c.in_ok-value.ensures (sym z);
+      lists = transit_fails g.M.Mail.trays g.M.Mail.LIMIT c.args.self.now (record { changes = room c.args.changes.now; parcels = room c.args.parcels.now }) (held c.args.parcels.now) c.args.number c.in-Some.found c.in-Some.ensures (held c.args.changes.now) c.args.message (held c.received.new.changes) c.in_ok-received.ensures.list c.in_ok-value.value _ c.in_ok-value.ensures (sym z);
       changes = search rules;
       parcels = search rules;
     }
@@ -66,8 +66,8 @@ returns g c =
     let d = c.effect.ensures.changes in
     record {
       lists = c.effect.ensures.lists
-          ∙ (ap (λ (n : ℕ). steps_at (around g.M.Mail.trays g.M.Mail.limit c.args.self.now (record { changes = n; parcels = room c.args.parcels.now })) v c.in-Some.found.effect F) a.0
-          ∙ transit_goes g.M.Mail.trays g.M.Mail.limit c.args.self.now (record { changes = room c.args.changes.now; parcels = room c.args.parcels.now }) (held c.args.parcels.now) c.args.number c.in-Some.found c.in-Some.ensures (held c.args.changes.now) c.args.message (held c.received.new.changes) c.in_ok-received.ensures.list c.in_ok-value.value _ c.in_ok-value.ensures (sym z));
+          ∙ (ap (λ (n : ℕ). steps_at (around g.M.Mail.trays g.M.Mail.LIMIT c.args.self.now (record { changes = n; parcels = room c.args.parcels.now })) v c.in-Some.found.effect F) a.0
+          ∙ transit_goes g.M.Mail.trays g.M.Mail.LIMIT c.args.self.now (record { changes = room c.args.changes.now; parcels = room c.args.parcels.now }) (held c.args.parcels.now) c.args.number c.in-Some.found c.in-Some.ensures (held c.args.changes.now) c.args.message (held c.received.new.changes) c.in_ok-received.ensures.list c.in_ok-value.value _ c.in_ok-value.ensures (sym z));
       changes = (d.0 ∙ a.0, d.1 ∙ a.1);
       parcels = c.effect.ensures.parcels;
     }

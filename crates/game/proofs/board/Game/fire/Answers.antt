@@ -5,7 +5,7 @@ use Rattle.game.proofs.board.Game.fire.Goals as goal
 
 pub returns : goal.returns
 returns g c =
-    let S = setting (meaning c.args.level.now) g.M.Mail.limit g.M.Mail.place in
+    let S = setting (meaning c.args.level.now) g.M.Mail.LIMIT g.M.Mail.place in
     let G = means g.M.Mail.trays c.args.self.now in
     let t = lent c.args.changes.now c.args.parcels.now in
     let e = c.strike.ensures in

@@ -20,7 +20,7 @@ loop-left-init g c =
     let a = ap length c.requires.empty.0 in
     let b = ap length c.requires.empty.1 in
     let f = c.requires.few in (
-      ap (λ s. judge_all g.M.Mail.limit (means g.M.Mail.trays c.args.self.now) (meaning c.args.level.now) s 0 (front_moves c.args.moves.now)) first,
+      ap (λ s. judge_all g.M.Mail.LIMIT (means g.M.Mail.trays c.args.self.now) (meaning c.args.level.now) s 0 (front_moves c.args.moves.now)) first,
       ap (λ v. all_lists (meaning c.args.level.now) (means g.M.Mail.trays c.args.self.now) v (front_moves c.args.moves.now)) none,
       omega arith,
       omega arith,
@@ -35,7 +35,7 @@ judge-requires g c =
     let h : 3 ≤ length c.loop-left.left.now = omega (arith, ltb-false) in
     let e : get_or c.loop-left.left.now 0 0 ≡ 0x51 = omega arith in
     let i = c.loop-left.invariant in
-    let n = fewer_left g.M.Mail.limit (meaning c.args.level.now) (means g.M.Mail.trays c.args.self.now) (earlier_of (moved_in c.loop-left.listed) (took_in c.loop-left.listed) t) t t c.loop-left.place c.loop-left.left.now h e c.of_bytes-moving.result c.of_bytes-moving.ensures in
+    let n = fewer_left g.M.Mail.LIMIT (meaning c.args.level.now) (means g.M.Mail.trays c.args.self.now) (earlier_of (moved_in c.loop-left.listed) (took_in c.loop-left.listed) t) t t c.loop-left.place c.loop-left.left.now h e c.of_bytes-moving.result c.of_bytes-moving.ensures in
     let j = i.2 in
     let p = i.3 in
     let q = i.4 in
@@ -50,7 +50,7 @@ returns-in-Err g c =
     let h : 3 ≤ length c.loop-left.left.now = omega (arith, ltb-false) in
     let e : get_or c.loop-left.left.now 0 0 ≡ 0x51 = omega arith in
     let i = c.loop-left.invariant in
-    let k = refused_here g.M.Mail.limit (meaning c.args.level.now) (means g.M.Mail.trays c.args.self.now) (earlier_of (moved_in c.loop-left.listed) (took_in c.loop-left.listed) t) t t c.loop-left.place c.loop-left.left.now h e c.of_bytes-moving.result c.of_bytes-moving.ensures c.in-Err.why c.in-Err.ensures.lists in
+    let k = refused_here g.M.Mail.LIMIT (meaning c.args.level.now) (means g.M.Mail.trays c.args.self.now) (earlier_of (moved_in c.loop-left.listed) (took_in c.loop-left.listed) t) t t c.loop-left.place c.loop-left.left.now h e c.of_bytes-moving.result c.of_bytes-moving.ensures c.in-Err.why c.in-Err.ensures.lists in
     let a = c.judge.ensures.changes in
     let b = c.judge.ensures.parcels in
     record {
@@ -67,16 +67,16 @@ loop-left-preserved g c =
     let i = c.loop-left.invariant in
     let k = c.in-Ok.ensures.lists in
     let s = c.in-Ok.ensures.earlier refl in
-    let n = fewer_left g.M.Mail.limit (meaning c.args.level.now) (means g.M.Mail.trays c.args.self.now) (earlier_of (moved_in c.loop-left.listed) (took_in c.loop-left.listed) t) t u c.loop-left.place c.loop-left.left.now h e c.of_bytes-moving.result c.of_bytes-moving.ensures in
-    let x = more_changes g.M.Mail.limit (meaning c.args.level.now) (means g.M.Mail.trays c.args.self.now) (earlier_of (moved_in c.loop-left.listed) (took_in c.loop-left.listed) t) t u c.loop-left.place c.loop-left.left.now h e c.of_bytes-moving.result c.of_bytes-moving.ensures k (held_sound c.args.level.now) in
-    let y = more_parcels g.M.Mail.limit (meaning c.args.level.now) (means g.M.Mail.trays c.args.self.now) (earlier_of (moved_in c.loop-left.listed) (took_in c.loop-left.listed) t) t u c.loop-left.place c.loop-left.left.now h e c.of_bytes-moving.result c.of_bytes-moving.ensures k (held_sound c.args.level.now) in
+    let n = fewer_left g.M.Mail.LIMIT (meaning c.args.level.now) (means g.M.Mail.trays c.args.self.now) (earlier_of (moved_in c.loop-left.listed) (took_in c.loop-left.listed) t) t u c.loop-left.place c.loop-left.left.now h e c.of_bytes-moving.result c.of_bytes-moving.ensures in
+    let x = more_changes g.M.Mail.LIMIT (meaning c.args.level.now) (means g.M.Mail.trays c.args.self.now) (earlier_of (moved_in c.loop-left.listed) (took_in c.loop-left.listed) t) t u c.loop-left.place c.loop-left.left.now h e c.of_bytes-moving.result c.of_bytes-moving.ensures k (held_sound c.args.level.now) in
+    let y = more_parcels g.M.Mail.LIMIT (meaning c.args.level.now) (means g.M.Mail.trays c.args.self.now) (earlier_of (moved_in c.loop-left.listed) (took_in c.loop-left.listed) t) t u c.loop-left.place c.loop-left.left.now h e c.of_bytes-moving.result c.of_bytes-moving.ensures k (held_sound c.args.level.now) in
     let a = c.judge.ensures.changes in
     let b = c.judge.ensures.parcels in
     let p = i.3 in
     let q = i.4 in
     let j = i.2 in (
-      judged_on g.M.Mail.limit (meaning c.args.level.now) (means g.M.Mail.trays c.args.self.now) (earlier_of (moved_in c.loop-left.listed) (took_in c.loop-left.listed) t) t u c.loop-left.place c.loop-left.left.now h e c.of_bytes-moving.result c.of_bytes-moving.ensures k _ s ∙ i.0,
-      listed_on g.M.Mail.limit (meaning c.args.level.now) (means g.M.Mail.trays c.args.self.now) (earlier_of (moved_in c.loop-left.listed) (took_in c.loop-left.listed) t) t u c.loop-left.place c.loop-left.left.now h e c.of_bytes-moving.result c.of_bytes-moving.ensures k ∙ i.1,
+      judged_on g.M.Mail.LIMIT (meaning c.args.level.now) (means g.M.Mail.trays c.args.self.now) (earlier_of (moved_in c.loop-left.listed) (took_in c.loop-left.listed) t) t u c.loop-left.place c.loop-left.left.now h e c.of_bytes-moving.result c.of_bytes-moving.ensures k _ s ∙ i.0,
+      listed_on g.M.Mail.LIMIT (meaning c.args.level.now) (means g.M.Mail.trays c.args.self.now) (earlier_of (moved_in c.loop-left.listed) (took_in c.loop-left.listed) t) t u c.loop-left.place c.loop-left.left.now h e c.of_bytes-moving.result c.of_bytes-moving.ensures k ∙ i.1,
       omega arith,
       omega arith,
       omega arith,
@@ -90,7 +90,7 @@ returns-in_default g c =
     let s = earlier_of (moved_in c.loop-left.listed) (took_in c.loop-left.listed) t in
     let i = c.loop-left.invariant in
     record {
-      lists = ends_well _ _ _ _ _ i.0 (judged_end g.M.Mail.limit (meaning c.args.level.now) (means g.M.Mail.trays c.args.self.now) s t c.loop-left.place c.loop-left.left.now (λ a b. omega (arith, ltb-true, ltb-false))) i.1 (listed_end g.M.Mail.limit (meaning c.args.level.now) (means g.M.Mail.trays c.args.self.now) s t c.loop-left.place c.loop-left.left.now (λ a b. omega (arith, ltb-true, ltb-false)));
+      lists = ends_well _ _ _ _ _ i.0 (judged_end g.M.Mail.LIMIT (meaning c.args.level.now) (means g.M.Mail.trays c.args.self.now) s t c.loop-left.place c.loop-left.left.now (λ a b. omega (arith, ltb-true, ltb-false))) i.1 (listed_end g.M.Mail.LIMIT (meaning c.args.level.now) (means g.M.Mail.trays c.args.self.now) s t c.loop-left.place c.loop-left.left.now (λ a b. omega (arith, ltb-true, ltb-false)));
       lent = (i.5, i.6);
     }
 
@@ -100,6 +100,6 @@ returns-in_default-2 g c =
     let s = earlier_of (moved_in c.loop-left.listed) (took_in c.loop-left.listed) t in
     let i = c.loop-left.invariant in
     record {
-      lists = ends_well _ _ _ _ _ i.0 (judged_end g.M.Mail.limit (meaning c.args.level.now) (means g.M.Mail.trays c.args.self.now) s t c.loop-left.place c.loop-left.left.now (λ a b. omega (arith, ltb-true, ltb-false))) i.1 (listed_end g.M.Mail.limit (meaning c.args.level.now) (means g.M.Mail.trays c.args.self.now) s t c.loop-left.place c.loop-left.left.now (λ a b. omega (arith, ltb-true, ltb-false)));
+      lists = ends_well _ _ _ _ _ i.0 (judged_end g.M.Mail.LIMIT (meaning c.args.level.now) (means g.M.Mail.trays c.args.self.now) s t c.loop-left.place c.loop-left.left.now (λ a b. omega (arith, ltb-true, ltb-false))) i.1 (listed_end g.M.Mail.LIMIT (meaning c.args.level.now) (means g.M.Mail.trays c.args.self.now) s t c.loop-left.place c.loop-left.left.now (λ a b. omega (arith, ltb-true, ltb-false)));
       lent = (i.5, i.6);
     }

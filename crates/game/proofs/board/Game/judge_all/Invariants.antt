@@ -12,8 +12,8 @@ use Rattle.game.proofs.board.Game.judge_all.Given as goal
 
 abbrev pub invariant-loop-left : goal.invariant-loop-left
 invariant-loop-left g l =
-    (judge_all g.M.Mail.limit (means g.M.Mail.trays l.self) (meaning l.level) (earlier_of (moved_in l.listed) (took_in l.listed) (record { changes = held l.changes; parcels = held l.parcels })) l.place (front_moves l.left)
-    ≡ judge_all g.M.Mail.limit (means g.M.Mail.trays l.self) (meaning l.level) nothing 0 (front_moves l.initial.left))
+    (judge_all g.M.Mail.LIMIT (means g.M.Mail.trays l.self) (meaning l.level) (earlier_of (moved_in l.listed) (took_in l.listed) (record { changes = held l.changes; parcels = held l.parcels })) l.place (front_moves l.left)
+    ≡ judge_all g.M.Mail.LIMIT (means g.M.Mail.trays l.self) (meaning l.level) nothing 0 (front_moves l.initial.left))
     × (all_lists (meaning l.level) (means g.M.Mail.trays l.self) (record { changes = held l.changes; parcels = held l.parcels }) (front_moves l.left)
     ≡ all_lists (meaning l.level) (means g.M.Mail.trays l.self) (record { changes = []; parcels = [] }) (front_moves l.initial.left))
     × (l.place + length (front_moves l.left) ≤ 16)

@@ -7,7 +7,7 @@ use Rattle.game.proofs.board.Game.strike.Goals as goal
 
 pub returns-then-is_err : goal.returns-then-is_err
 returns-then-is_err g c =
-    let S = setting (meaning c.args.level.now) g.M.Mail.limit g.M.Mail.place in
+    let S = setting (meaning c.args.level.now) g.M.Mail.LIMIT g.M.Mail.place in
     let G = means g.M.Mail.trays c.args.self.now in
     let same : lent c.clear.new.self c.clear-2.new.self ≡ lent c.args.changes.now c.args.parcels.now = λ j. record { changes = c.clear.ensures.room j; parcels = c.clear-2.ensures.room j } in
     let answer = c.beat-answer.ensures.answer ∙ ap (λ (t : Lent). (call S G (strike t c.args.moves.now)).answer) same in
@@ -26,7 +26,7 @@ returns-then-is_err g c =
 
 pub returns-else-is_err : goal.returns-else-is_err
 returns-else-is_err g c =
-    let S = setting (meaning c.args.level.now) g.M.Mail.limit g.M.Mail.place in
+    let S = setting (meaning c.args.level.now) g.M.Mail.LIMIT g.M.Mail.place in
     let G = means g.M.Mail.trays c.args.self.now in
     let same : lent c.clear.new.self c.clear-2.new.self ≡ lent c.args.changes.now c.args.parcels.now = λ j. record { changes = c.clear.ensures.room j; parcels = c.clear-2.ensures.room j } in
     let trails = c.beat-answer.ensures.trails (c.is_err.ensures.negation ∙ ap not c.if-is_err.false) in

@@ -7,7 +7,7 @@ use Rattle.game.proofs.board.Game.tap.Goals as goal
 
 pub returns-in_default : goal.returns-in_default
 returns-in_default g c =
-    let S = setting (meaning c.args.level.now) g.M.Mail.limit g.M.Mail.place in
+    let S = setting (meaning c.args.level.now) g.M.Mail.LIMIT g.M.Mail.place in
     let G = means g.M.Mail.trays c.args.self.now in
     let counted = c.pieces.ensures in
     let inside = c.if-piece-pieces.false in
@@ -16,7 +16,7 @@ returns-in_default g c =
 
 pub returns-then-not-fits : goal.returns-then-not-fits
 returns-then-not-fits g c =
-    let S = setting (meaning c.args.level.now) g.M.Mail.limit g.M.Mail.place in
+    let S = setting (meaning c.args.level.now) g.M.Mail.LIMIT g.M.Mail.place in
     let G = means g.M.Mail.trays c.args.self.now in
     let counted = c.pieces.ensures in
     let inside = c.if-piece-pieces.false in
@@ -25,7 +25,7 @@ returns-then-not-fits g c =
 
 pub returns-in-Ok : goal.returns-in-Ok
 returns-in-Ok g c =
-    let S = setting (meaning c.args.level.now) g.M.Mail.limit g.M.Mail.place in
+    let S = setting (meaning c.args.level.now) g.M.Mail.LIMIT g.M.Mail.place in
     let G = means g.M.Mail.trays c.args.self.now in
     let counted = c.pieces.ensures in
     let inside = c.if-piece-pieces.false in
@@ -34,7 +34,7 @@ returns-in-Ok g c =
 
 pub returns-in-Err : goal.returns-in-Err
 returns-in-Err g c =
-    let S = setting (meaning c.args.level.now) g.M.Mail.limit g.M.Mail.place in
+    let S = setting (meaning c.args.level.now) g.M.Mail.LIMIT g.M.Mail.place in
     let G = means g.M.Mail.trays c.args.self.now in
     let counted = c.pieces.ensures in
     let inside = c.if-piece-pieces.false in
