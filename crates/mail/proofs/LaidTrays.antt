@@ -7,7 +7,7 @@ use Rattle.std.proofs.lemmas.Nat.{row_fits}
 use Rattle.std.proofs.lemmas.List.{drop_at, drop-take, take_more, set_at, take-append-le, take_at, take_all, length-take-le, get_or-set_same, get_or-set_other}
 use Rattle.std.proofs.lemmas.List.Edits.{length-insert}
 use Rattle.std.proofs.lemmas.Slice.{take-put_mid_below, drop-put_mid}
-use Rattle.std.proofs.lemmas.Bool.{cases_lt, cases_eq}
+use Rattle.std.proofs.lemmas.Bool.{cases_lt}
 use Rattle.std.specs.List.{insert}
 use Rattle.mail.specs.declared.message.Message.{Message}
 use Rattle.mail.specs.Laid.{laid_trays}
@@ -50,18 +50,9 @@ module _
   tray_ends : p * limit + limit ≤ 32 * limit
   tray_ends = row_fits p limit 32 limit (omega arith) (omega arith)
 
-  pub tray_counted : length (laid_trays limit places counts p) ≡ get_or counts p 0
+  tray_counted : length (laid_trays limit places counts p) ≡ get_or counts p 0
   unfolding laid_trays
   tray_counted = let b = few p in let e = tray_ends in simp (length-take, length-drop) (omega arith)
-
-  -- the counts, where that of the piece is n from now on
-  pub few_counted : (n : ℕ) → n ≤ limit → (q : ℕ) → get_or (set counts p n) q 0 ≤ limit
-  few_counted n h q =
-      let c : p < length counts = omega arith in
-      ⊎_elim
-      (λ (e : q ≡ p). rw e (rw (get_or-set_same counts p n 0 c) h))
-      (λ (ne : q ≡ p → ⊥). rw (get_or-set_other counts p q n 0 ne) (few q))
-      (cases_eq q p)
 
   -- the first k places of the piece are given back as ys, of which the first n count from now on
   tray_written :

@@ -1,16 +1,11 @@
 -- What a mail has to show, whatever it is, for the promises of putting and taking.
-use Rattle.std.proofs.Common.{◌≡◌, ℕ, ◌<◌, ◌≤◌, eqb, List, [], ◌∷◌, length, Some, sym, refl, ap, ◌∙◌, ⊎_elim, arith}
+use Rattle.std.proofs.Common.{◌≡◌, ℕ, ◌≤◌, eqb, List, [], length, sym, refl, ap, ◌∙◌, ⊎_elim}
 use mathlib.Core.List.{tail}
 use mathlib.Core.Path.{fun_ext}
 use Rattle.std.proofs.lemmas.Bool.{cases_eq, cond-true, cond-false, eq-eqb, ne_eqb, le-ltb}
 use Rattle.std.specs.List.{insert}
 use Rattle.mail.specs.declared.message.Message.{Message}
-use Rattle.mail.specs.Trays.{Trays, with_tray, front, put_trays, take_trays}
-
--- a message that is seen is one that waits
-pub some_wait : (l : List Message) (m : Message) → Some m ≡ front l → 0 < length l
-some_wait [] m e = let z : ◌≡◌ {A = ℕ} 0 1 = cc in omega arith
-some_wait (x ∷ l) m e = omega arith
+use Rattle.mail.specs.Trays.{Trays, with_tray, put_trays, take_trays}
 
 module _ (t : Trays) (p : ℕ) where
   -- trays that differ in one at most

@@ -1,5 +1,5 @@
 // A mail that puts its messages by a rule of placing, whichever that is.
-ghost use Rattle.std.specs.Prelude.{◌≡◌, ℕ, ◌*◌, ◌<◌, ◌≤◌, List, [], ◌∷◌, ◌++◌, length, replicate, slice_index};
+ghost use Rattle.std.specs.Prelude.{◌≡◌, ℕ, ◌+◌, ◌*◌, ◌<◌, ◌≤◌, List, [], ◌∷◌, ◌++◌, length, replicate, slice_index};
 ghost use Rattle.std.specs.List.{insert};
 ghost use Rattle.mail.specs.declared.message.Message.{Message};
 ghost use Rattle.mail.specs.Messages.{blank};
@@ -14,6 +14,7 @@ use crate::placing::Placing;
 use std::marker::PhantomData;
 
 // As many places for each piece as the limit, of which the first hold the messages in its tray, and how many those are.
+// A queue mail is to have 128 places, all blank when it is new: so the places are one array, and the counts another.
 #[derive(Drop)]
 struct Table<const PLACES: usize> {
     places: [Message; PLACES],
@@ -51,16 +52,26 @@ impl<R: Placing<PLACES>, const PLACES: usize> PlacedMail<R, PLACES> {
         }
     }
 
+    // Where the places of the piece begin. All of them lie among those of the table.
+    fn start(piece: u8) -> usize
+        requires { piece ≤ 31 }
+        ensures at { result ≡ piece * R.LIMIT }
+        ensures within { result + R.LIMIT ≤ 32 * R.LIMIT }
+    {
+        usize::from(piece) * R::LIMIT
+    }
+
     // The messages that wait for the piece.
     fn tray(&self, piece: u8) -> &[Message]
-        ensures { result.now ≡ laid_trays R.LIMIT self.now.table.places self.now.table.counts piece }
+        ensures tray { result.now ≡ laid_trays R.LIMIT self.now.table.places self.now.table.counts piece }
+        ensures counted { length result.now ≡ slice_index self.now.table.counts piece }
+        ensures within { length result.now ≤ R.LIMIT }
     {
-        let p = usize::from(piece);
-        let Some(&count) = self.table.counts.get(p) else {
+        let Some(&count) = self.table.counts.get(usize::from(piece)) else {
             return &[];
         };
+        let start = Self::start(piece);
         let places = &self.table.places[..];
-        let start = p * R::LIMIT;
         &places[start..start + usize::from(count)]
     }
 }
@@ -100,13 +111,12 @@ impl<R: Placing<PLACES>, const PLACES: usize> Mail for PlacedMail<R, PLACES> {
             return Err(MailFault::Full);
         }
         let at = R::place(waiting, message);
-        let p = usize::from(piece);
-        let start = p * R::LIMIT;
+        let start = Self::start(piece);
         let places = &mut self.table.places[..];
         let tray = &mut places[start..start + count + 1];
         tray[count] = message;
         last_to(tray, at);
-        self.table.counts[p] += 1;
+        self.table.counts[usize::from(piece)] += 1;
         Ok(())
     }
 
@@ -114,13 +124,13 @@ impl<R: Placing<PLACES>, const PLACES: usize> Mail for PlacedMail<R, PLACES> {
         if piece > 31 {
             return Err(MailFault::NoPiece);
         }
-        let message = self.look(piece).ok_or(MailFault::Empty)?;
-        let count = self.count(piece);
-        let p = usize::from(piece);
-        let start = p * R::LIMIT;
+        let waiting = self.tray(piece);
+        let count = waiting.len();
+        let message = *waiting.first().ok_or(MailFault::Empty)?;
+        let start = Self::start(piece);
         let places = &mut self.table.places[..];
         places[start..start + count].rotate_left(1);
-        self.table.counts[p] -= 1;
+        self.table.counts[usize::from(piece)] -= 1;
         Ok(message)
     }
 
