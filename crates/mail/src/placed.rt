@@ -14,7 +14,8 @@ use crate::placing::Placing;
 use std::marker::PhantomData;
 
 // As many places for each piece as the limit, of which the first hold the messages in its tray, and how many those are.
-// A queue mail is to have 128 places, all blank when it is new: so the places are one array, and the counts another.
+// A mail needs no heap, and a queue mail is to have 128 places, all blank when it is new: so the places are one array, and
+// the counts stand beside it.
 #[derive(Drop)]
 struct Table<const PLACES: usize> {
     places: [Message; PLACES],
