@@ -38,6 +38,13 @@ impl<'a> Level<'a> {
         self.index.kinds.get(number)
     }
 
+    // All transitions, in the level's order: a transition's number is its place here.
+    pub fn transitions(&self) -> &[TransitionEntry]
+        ensures { result.now ≡ map transition_entry (placed (meaning self.now)) }
+    {
+        self.index.transitions.as_slice()
+    }
+
     // The transition of this number, counted through the level, if there is one.
     pub fn transition(&self, number: usize) -> Option<TransitionEntry>
         ensures { result ≡ nth (map transition_entry (placed (meaning self.now))) number }

@@ -24,6 +24,13 @@ impl<T: Copy, const N: usize> Table<T, N> {
         self.count
     }
 
+    // The entries, in order.
+    pub fn as_slice(&self) -> &[T]
+        ensures { result.now ≡ listed self.now }
+    {
+        &self.entries[..self.count]
+    }
+
     // Refused where there is no place for one more.
     pub fn room(&self) -> Result<(), OperandFault>
         ensures { result ≡ (if nat_lt (length (listed self.now)) N then Ok tt else Err TooMany) }
