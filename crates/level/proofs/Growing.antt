@@ -1,5 +1,5 @@
 -- The index of kinds and transitions, as it grows by one.
-use Rattle.std.proofs.Common.{◌≡◌, ℕ, suc, ◌+◌, ◌-◌, ◌<◌, ◌≤◌, List, [], ◌∷◌, ◌++◌, map, length, Ok, Err, Result, sym, refl, ap, ◌∙◌, subst, append_assoc, append-nil, arith, length-append}
+use Rattle.std.proofs.Common.{◌≡◌, ℕ, suc, ◌+◌, ◌-◌, ◌<◌, ◌≤◌, List, [], ◌∷◌, ◌++◌, map, length, get_or, Ok, Err, Result, sym, refl, ap, ◌∙◌, subst, append_assoc, append-nil, arith, length-append}
 use Rattle.std.proofs.lemmas.List.{length-map, map-append}
 use Rattle.level.specs.declared.entry.KindEntry.{KindEntry}
 use Rattle.level.specs.declared.entry.TransitionEntry.{TransitionEntry}
@@ -9,14 +9,14 @@ use Rattle.level.specs.Law.{Bytes}
 use Rattle.level.specs.Places.{placed_at, in_kind, in_kinds}
 use Rattle.level.specs.Reading.{Read, got, at, read_transition, read_transitions, read_kind, read_kinds}
 use Rattle.level.specs.Readers.{Gives, Holds, nothing, turn}
-use Rattle.level.specs.Sound.{Each, SoundTransition, most_kinds, count}
+use Rattle.level.specs.Sound.{SoundTransition, most_kinds, count}
 use Rattle.level.specs.Spelling.{all, transition, kind}
 use Rattle.level.specs.Syntax.{Transition, Kind}
 use Rattle.level.proofs.Effects.{transition_reads}
 use Rattle.level.proofs.Fills.{Filled, ends, breaks, again, turn_at, turn_less, turn_got, turn_in}
 use Rattle.level.proofs.Limits.{kinds_limit}
 use Rattle.level.proofs.Sections.{FittingKind, all_push, two_parameters, kind_reads}
-use Rattle.level.proofs.Steps.{spelled}
+use Rattle.level.proofs.Steps.{Reads, spelled}
 use Rattle.level.proofs.Turns.{went}
 
 pub in_kind_length : (k n i : ℕ) (ts : List Transition) → length (in_kind k n i ts) ≡ length ts
@@ -41,7 +41,7 @@ transition_pushed k n total bs l rows table ts t e h q =
     rw (q, z, in_kind_push k n (total - length bs) ts t, map-append) (append_assoc rows _ _)
 
 -- The loop over the transitions of kind `number`; `rows` stood in the table before it, `bs₀` were its bytes.
-module _ (signals : List ℕ) (few : Each (λ k. k ≤ 2) signals) (n m total number : ℕ) (rows : List TransitionEntry) (bs₀ : List ℕ) (short : length bs₀ ≤ total) where
+module _ (signals : List ℕ) (few : (k : ℕ) → get_or signals k 0 ≤ 2) (n m total number : ℕ) (rows : List TransitionEntry) (bs₀ : List ℕ) (short : length bs₀ ≤ total) where
   abbrev pub Grown : List TransitionEntry → List ℕ → List Transition → Type 0
   Grown table bs ts = (bs₀ ≡ all transition ts ++ bs) × (table ≡ rows ++ map transition_entry (in_kind number n (total - length bs₀) ts))
 
@@ -97,12 +97,6 @@ module _ (signals : List ℕ) (few : Each (λ k. k ≤ 2) signals) (n m total nu
     pub transitions_done : (at bs 0 ≡ 0x03 → ⊥) → whole ≡ got s.so_far bs
     transitions_done h = ends 0x03 6 most item (Grown table bs) whole bs s h
 
-    -- the table has a place for what was read
-    pub transitions_room : (v : TransitionEntry) (l : List ℕ) → One (Ok v) l → length table < 128
-    transitions_room v l g =
-        let w = went entered (turn 6 128 (length table) bs (read_transition signals n m bs)) v l g in
-        (turn_got 6 128 (length table) bs (read_transition signals n m bs) w.0 l w.1).1
-
 -- kinds
 pub in_kinds_length : (k i : ℕ) (ks : List Kind) → length (in_kinds k i ks) ≡ count ks
 in_kinds_length k i [] = refl
@@ -126,7 +120,7 @@ abbrev pub GrownKinds : ℕ → List ℕ → List KindEntry → List TransitionE
 GrownKinds total bs₀ rows table bs ks = (bs₀ ≡ all kind ks ++ bs) × (rows ≡ map kind_entry ks) × (table ≡ map transition_entry (in_kinds 0 (total - length bs₀) ks))
 
 -- The loop over the kinds; `bs₀` were its bytes.
-module _ (signals : List ℕ) (few : Each (λ k. k ≤ 2) signals) (total : ℕ) (bs₀ : List ℕ) (short : length bs₀ ≤ total) where
+module _ (signals : List ℕ) (few : (k : ℕ) → get_or signals k 0 ≤ 2) (total : ℕ) (bs₀ : List ℕ) (short : length bs₀ ≤ total) where
   abbrev kind_item : List Kind → List ℕ → Read Kind
   kind_item ks = read_kind signals (count ks)
 
@@ -171,6 +165,14 @@ module _ (signals : List ℕ) (few : Each (λ k. k ≤ 2) signals) (total : ℕ)
               p ∙ rw (s.known.1, q) (sym (map-append kind_entry s.so_far (x ∷ []))),
               u ∙ (rw (s.known.2, z, w) (sym (ap (map transition_entry) (in_kinds_push 0 i s.so_far x) ∙ map-append transition_entry (in_kinds 0 i s.so_far) _))),
             ))
+
+        -- the table has a place for what was read, which has at most eight numbers
+        pub kinds_fit : (length rows < 16) × (v.numbers ≤ 8)
+        kinds_fit =
+            let w = went kind_entry one_kind v l g in
+            let t = turn_got 3 16 (length rows) bs (read_kind signals (length table) bs) w.0 l w.1 in
+            let r = subst (Reads (FittingKind signals (length table)) kind bs) t.2 (kind_reads signals few (length table) bs y t.0 b) in
+            (t.1, rw w.2 r.1.0.numbers)
 
         pub kinds_less : length l < length bs
         kinds_less =

@@ -1,5 +1,5 @@
 -- The whole index, as the code reads it section by section.
-use Rattle.std.proofs.Common.{◌≡◌, ℕ, ◌+◌, ◌-◌, ◌≤◌, List, [], ◌∷◌, ◌++◌, map, length, Ok, Err, Result, sym, refl, ap, ◌∙◌, subst, arith, length-append}
+use Rattle.std.proofs.Common.{◌≡◌, ℕ, ◌+◌, ◌-◌, ◌≤◌, List, ◌++◌, map, length, Ok, Err, Result, sym, refl, ap, ◌∙◌, subst, arith, length-append}
 use Rattle.level.specs.declared.entry.KindEntry.{KindEntry}
 use Rattle.level.specs.declared.entry.PieceEntry.{PieceEntry}
 use Rattle.level.specs.declared.entry.TransitionEntry.{TransitionEntry}
@@ -8,23 +8,19 @@ use Rattle.level.specs.Entries.{Index, kind_entry, transition_entry, piece_entry
 use Rattle.level.specs.Law.{Bytes}
 use Rattle.level.specs.Places.{in_kinds}
 use Rattle.level.specs.Reading.{Read, got, bad, then, read_signals, read_kinds, read_pieces, read_end, read_sections}
-use Rattle.level.specs.Readers.{Gives, Holds, nothing, entry_counts}
-use Rattle.level.specs.Sound.{Each, most_signals, most_kinds, counts, SoundKind}
-use Rattle.level.specs.Spelling.{all, signal, kind}
+use Rattle.level.specs.Readers.{Gives, Holds, nothing}
+use Rattle.level.specs.Tables.{entry_counts}
+use Rattle.level.specs.Sound.{Each, most_signals, counts}
+use Rattle.level.specs.Spelling.{all, signal}
 use Rattle.level.specs.Syntax.{Kind, Piece, Level}
 use Rattle.level.proofs.OnePiece.{entry_counts_map}
-use Rattle.level.proofs.Sections.{SoundKinds, signals_reads, kinds_reads}
+use Rattle.level.proofs.Sections.{signals_reads}
 use Rattle.level.proofs.Steps.{Reads}
-use Rattle.level.proofs.Fronts.{bytes_right}
 use Rattle.level.proofs.Turns.{broke, goes_on, tail}
 
 -- what holds of what was read, at what was read
 holds_at : {A : Type 0} (R : Read A) (a : A) (l : List ℕ) (P : A → Type 0) → R ≡ got a l → Holds R P → P a
 holds_at R a l P e h = subst (λ X. Holds X P) e h
-
-rows_small : (signals : List ℕ) (ks : List Kind) → Each (SoundKind signals) ks → Each (λ e. e.numbers ≤ 8) (map kind_entry ks)
-rows_small signals [] h = tt
-rows_small signals (k ∷ ks) h = (h.0.numbers, rows_small signals ks h.1)
 
 -- the end, once all is known
 ended : (L : Level) (x : Index) (X : Read Unit) → x ≡ index_of L → Holds (then X (λ _ e. got L e)) (λ M. x ≡ index_of M)
@@ -54,9 +50,6 @@ module _ (bs : List ℕ) (y : Bytes bs) (total : ℕ) (same : total ≡ length b
     spelled_signals : (bs ≡ all signal ss ++ l1) × ((length ss ≤ most_signals) × Each (λ n. n ≤ 2) ss)
     spelled_signals = subst (Reads (λ xs. (length xs ≤ most_signals) × Each (λ n. n ≤ 2) xs) (all signal) bs) signals_are.0 (signals_reads most_signals bs y)
 
-    pub few : Each (λ n. n ≤ 2) ss
-    few = spelled_signals.1.1
-
     lengths : length bs ≡ length (all signal ss) + length l1
     lengths = ap length spelled_signals.0 ∙ length-append (all signal ss) l1
 
@@ -76,12 +69,6 @@ module _ (bs : List ℕ) (y : Bytes bs) (total : ℕ) (same : total ≡ length b
 
       counts_are : entry_counts rows ≡ counts kinds_are.0
       counts_are = ap entry_counts rows_are ∙ entry_counts_map kinds_are.0
-
-      pub small : Each (λ e. e.numbers ≤ 8) rows
-      small =
-          let z = bytes_right (all signal ss) l1 (subst Bytes spelled_signals.0 y) in
-          let r = subst (Reads (λ ks. (length ks ≤ most_kinds) × SoundKinds ss few ks) (all kind) l1) kinds_are.3 (kinds_reads ss few most_kinds l1 z) in
-          subst (Each (λ e. e.numbers ≤ 8)) (sym rows_are) (rows_small ss kinds_are.0 r.1.1.1)
 
       pieces_next : R ≡ then (read_pieces (entry_counts rows) l2) (from_end ss kinds_are.0)
       pieces_next = kinds_are.1 ∙ ap (λ cs. then (read_pieces cs l2) (from_end ss kinds_are.0)) (sym counts_are)

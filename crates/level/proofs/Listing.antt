@@ -1,61 +1,52 @@
--- The front of a list, as a table holds it.
-use Rattle.std.proofs.Common.{◌≡◌, ℕ, zero, suc, ◌-◌, ◌<◌, ◌≤◌, List, [], ◌∷◌, length, get_or, take, Some, None, refl, ap, arith}
-use Rattle.std.proofs.lemmas.List.{get_or_past}
+-- The tables of signals and kinds, by number.
+use Rattle.std.proofs.Common.{◌≡◌, ℕ, zero, suc, ◌<◌, ◌≤◌, List, [], ◌∷◌, ◌++◌, length, get_or, slice_get, Some, None, Ok, Option, Bor, MatchOption, sym, refl, ap, subst, arith}
+use Rattle.std.proofs.lemmas.Option.{slice_get_within, unwrap_or-slice_get}
+use Rattle.std.specs.Option.{unwrap_or, option_copied}
 use Rattle.level.specs.declared.entry.KindEntry.{KindEntry}
-use Rattle.level.specs.Readers.{entry_counts}
-use Rattle.level.specs.Sound.{Each, parameters}
-use Rattle.level.specs.Tables.{nth}
+use Rattle.level.specs.Law.{Bytes}
+use Rattle.level.specs.Levels.{signal_parameters}
+use Rattle.level.specs.Reading.{at, read_signal}
+use Rattle.level.specs.Readers.{Gives, turn}
+use Rattle.level.specs.Sound.{parameters}
+use Rattle.level.specs.Spelling.{signal}
+use Rattle.level.specs.Tables.{entry_counts}
+use Rattle.level.proofs.Fills.{turn_got}
+use Rattle.level.proofs.Sections.{signal_reads}
+use Rattle.level.proofs.Steps.{Reads}
+use Rattle.level.proofs.Turns.{went}
 
-pub nth_front : {T : Type 0} (n : ℕ) (xs : List T) (i : ℕ) (d : T) → n ≤ length xs → i < n → nth (take n xs) i ≡ Some (get_or xs i d)
-nth_front zero xs i d h k = absurd (omega arith)
-nth_front (suc n) [] i d h k = absurd (omega arith)
-nth_front (suc n) (x ∷ xs) zero d h k = refl
-nth_front (suc n) (x ∷ xs) (suc i) d h k = nth_front n xs i d (omega arith) (omega arith)
+-- the parameters of a signal, where it is declared and where it is not
+pub declared_parameters : (ss : List ℕ) (s : ℕ) → unwrap_or (signal_parameters ss s) 0 ≡ parameters ss s
+declared_parameters ss zero = refl
+declared_parameters ss (suc s) = unwrap_or-slice_get ss s 0
 
-pub nth_past : {T : Type 0} (xs : List T) (i : ℕ) → length xs ≤ i → nth xs i ≡ None
-nth_past [] i h = refl
-nth_past (x ∷ xs) zero h = absurd (omega arith)
-nth_past (x ∷ xs) (suc i) h = nth_past xs i (omega arith)
+pub declared_some : (ss : List ℕ) (s p : ℕ) → signal_parameters ss s ≡ Some p → (1 ≤ s) × (s ≤ length ss) × (parameters ss s ≡ p)
+declared_some ss zero p e = absurd (let z : ◌≡◌ {A = ℕ} 0 1 = cc in omega arith)
+declared_some ss (suc s) p e =
+    let k = slice_get_within ss s p e in
+    let j = unwrap_or-slice_get ss s 0 in
+    (omega arith, omega arith, sym (rw e at j))
 
-pub nth_none : {T : Type 0} (xs : List T) (i : ℕ) → None ≡ nth xs i → length xs ≤ i
-nth_none [] i h = omega arith
-nth_none (x ∷ xs) zero h = absurd (let z : ◌≡◌ {A = ℕ} 0 1 = cc in omega arith)
-nth_none (x ∷ xs) (suc i) h = let k = nth_none xs i h in omega arith
+-- a signal that was read has its place, and at most two parameters
+pub signal_fits : (n : ℕ) (bs : List ℕ) → Bytes bs → at bs 0 ≡ 0x01 → (v : ℕ) (l : List ℕ) → Gives (λ n. n) (turn 2 32 n bs (read_signal bs)) (Ok v) l → (n < 32) × (v ≤ 2)
+signal_fits n bs y b v l g =
+    let w = went (λ n. n) (turn 2 32 n bs (read_signal bs)) v l g in
+    let t = turn_got 2 32 n bs (read_signal bs) w.0 l w.1 in
+    (t.1, rw w.2 (subst (Reads (λ n. n ≤ 2) signal bs) t.2 (signal_reads bs y t.0 b)).1)
 
-pub nth_some : {T : Type 0} (xs : List T) (i : ℕ) (x d : T) → Some x ≡ nth xs i → (i < length xs) × (get_or xs i d ≡ x)
-nth_some [] i x d h = absurd (let z : ◌≡◌ {A = ℕ} 0 1 = cc in omega arith)
-nth_some (y ∷ xs) zero x d h = (omega arith, cc)
-nth_some (y ∷ xs) (suc i) x d h = let k = nth_some xs i x d h in (let j = k.0 in omega arith, k.1)
+-- how many numbers the pieces of a kind have, where the table has it and where not
+pub counts_found : (es : List KindEntry) (k : ℕ) (r : Option (Bor KindEntry)) → option_copied r ≡ slice_get es k → (n : ℕ) → MatchOption r (n ≡ 0) (λ x. n ≡ x.now.numbers) → n ≡ get_or (entry_counts es) k 0
+counts_found [] k None h n m = m
+counts_found [] k (Some x) h n m = absurd (let z : ◌≡◌ {A = ℕ} 0 1 = cc in omega arith)
+counts_found (e ∷ es) zero None h n m = absurd (let z : ◌≡◌ {A = ℕ} 0 1 = cc in omega arith)
+counts_found (e ∷ es) zero (Some x) h n m = let q : x.now ≡ e = cc in rw (m, q)
+counts_found (e ∷ es) (suc k) r h n m = counts_found es k r h n m
 
--- the parameters of a signal, where it is declared
-pub parameters_some : (ss : List ℕ) (s p : ℕ) → 1 ≤ s → Some p ≡ nth ss (s - 1) → (s ≤ length ss) × (parameters ss s ≡ p)
-parameters_some ss zero p h e = absurd (omega arith)
-parameters_some ss (suc s) p h e =
-    let z : suc s - 1 ≡ s = omega arith in
-    let k = nth_some ss s p 0 (rw z at e) in
-    (let j = k.0 in omega arith, k.1)
-
-pub parameters_none : (ss : List ℕ) (s : ℕ) → 1 ≤ s → None ≡ nth ss (s - 1) → parameters ss s ≡ 0
-parameters_none ss zero h e = absurd (omega arith)
-parameters_none ss (suc s) h e =
-    let z : suc s - 1 ≡ s = omega arith in
-    get_or_past ss s 0 (nth_none ss s (rw z at e))
-
--- how many numbers the pieces of a kind have, where the table has it
-pub counts_some : (es : List KindEntry) (k : ℕ) (e : KindEntry) → Some e ≡ nth es k → get_or (entry_counts es) k 0 ≡ e.numbers
-counts_some [] k e h = absurd (let z : ◌≡◌ {A = ℕ} 0 1 = cc in omega arith)
-counts_some (x ∷ es) zero e h = let q : e ≡ x = cc in rw q
-counts_some (x ∷ es) (suc k) e h = counts_some es k e h
-
-pub counts_none : (es : List KindEntry) (k : ℕ) → None ≡ nth es k → get_or (entry_counts es) k 0 ≡ 0
-counts_none [] k h = refl
-counts_none (x ∷ es) zero h = absurd (let z : ◌≡◌ {A = ℕ} 0 1 = cc in omega arith)
-counts_none (x ∷ es) (suc k) h = counts_none es k h
-
-pub counts_small : (es : List KindEntry) (k : ℕ) → Each (λ e. e.numbers ≤ 8) es → get_or (entry_counts es) k 0 ≤ 8
-counts_small [] k h = omega arith
-counts_small (x ∷ es) zero h = h.0
-counts_small (x ∷ es) (suc k) h = counts_small es k h.1
+pub small_push : (es : List KindEntry) (e : KindEntry) → ((k : ℕ) → get_or (entry_counts es) k 0 ≤ 8) → e.numbers ≤ 8 → (k : ℕ) → get_or (entry_counts (es ++ (e ∷ []))) k 0 ≤ 8
+small_push [] e h n zero = n
+small_push [] e h n (suc k) = omega arith
+small_push (x ∷ es) e h n zero = h 0
+small_push (x ∷ es) e h n (suc k) = small_push es e (λ j. h (suc j)) n k
 
 pub counts_table : (es : List KindEntry) → length (entry_counts es) ≡ length es
 counts_table [] = refl

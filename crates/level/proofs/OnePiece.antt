@@ -8,7 +8,8 @@ use Rattle.level.specs.declared.fault.Reason.TheVariants.{Operand}
 use Rattle.level.specs.Entries.{kind_entry, piece_entry, starting}
 use Rattle.level.specs.Law.{Bytes}
 use Rattle.level.specs.Reading.{Read, got, then, at, read_starts, read_piece, read_pieces, read_end}
-use Rattle.level.specs.Readers.{Gives, nothing, turn, opened, entry_counts}
+use Rattle.level.specs.Readers.{Gives, nothing, turn, opened}
+use Rattle.level.specs.Tables.{entry_counts}
 use Rattle.level.specs.Sound.{most_pieces, counts}
 use Rattle.level.specs.Spelling.{piece}
 use Rattle.level.specs.Syntax.{Kind, Start, Piece}

@@ -143,16 +143,20 @@ module _ (kinds : List Kind) where
 abbrev pub FittingKind : List ℕ → ℕ → Kind → Type 0
 FittingKind signals used k = SoundKind signals k × (length k.transitions ≤ most_transitions - used)
 
--- kinds, in a level whose signals have at most two parameters
-module _ (signals : List ℕ) (few : Each (λ n. n ≤ 2) signals) where
-  most_two : (ss : List ℕ) (k : ℕ) → Each (λ n. n ≤ 2) ss → get_or ss k 0 ≤ 2
-  most_two [] k e = omega arith
-  most_two (s ∷ ss) zero e = e.0
-  most_two (s ∷ ss) (suc k) e = most_two ss k e.1
+pub most_two : (ss : List ℕ) → Each (λ n. n ≤ 2) ss → (k : ℕ) → get_or ss k 0 ≤ 2
+most_two [] e k = omega arith
+most_two (s ∷ ss) e zero = e.0
+most_two (s ∷ ss) e (suc k) = most_two ss e.1 k
 
+-- the kinds so far
+abbrev pub SoundKinds : List ℕ → List Kind → Type 0
+SoundKinds signals ks = (count ks ≤ most_transitions) × Each (SoundKind signals) ks
+
+-- kinds, in a level whose signals have at most two parameters
+module _ (signals : List ℕ) (few : (k : ℕ) → get_or signals k 0 ≤ 2) where
   pub two_parameters : (s : ℕ) → parameters signals s ≤ 2
   two_parameters zero = omega arith
-  two_parameters (suc s) = most_two signals s few
+  two_parameters (suc s) = few s
 
   pub transitions_reads : (n m most : ℕ) (bs : List ℕ) → Bytes bs
       → Reads (λ ts. (length ts ≤ most) × Each (SoundTransition signals n m) ts) (all transition) bs (read_transitions signals n m most bs)
@@ -176,10 +180,6 @@ module _ (signals : List ℕ) (few : Each (λ n. n ≤ 2) signals) where
       many_read (λ _. SoundTransition signals n m) (λ _. Unit) transition 0x03 6 (λ _. read_transition signals n m) (λ x l. tt) (λ x l. refl) transition_wide
       (λ xs x l v f. transition_read signals n m x l (two_parameters x.signal) v) most ts l h (along_each (SoundTransition signals n m) [] ts e) tt b
 
-  -- the kinds so far
-  abbrev pub SoundKinds : List Kind → Type 0
-  SoundKinds ks = (count ks ≤ most_transitions) × Each (SoundKind signals) ks
-
   count_push : (ks : List Kind) (k : Kind) → count (ks ++ (k ∷ [])) ≡ count ks + length k.transitions
   count_push [] k = omega arith
   count_push (x ∷ ks) k = let h = count_push ks k in omega arith
@@ -191,8 +191,8 @@ module _ (signals : List ℕ) (few : Each (λ n. n ≤ 2) signals) where
       (transitions_reads (at bs 1) (at bs 2) (most_transitions - used) (drop 3 bs) (bytes_drop 3 bs y)) (λ ts l w q v.
       (front 3 bs h ∙ rw (b, q), (record { numbers = omega arith; some = z'; states = omega arith; transitions = v.1 }, v.0)))))
 
-  pub kinds_reads : (most : ℕ) (bs : List ℕ) → Bytes bs → Reads (λ ks. (length ks ≤ most) × SoundKinds ks) (all kind) bs (many 0x02 3 (λ ks. read_kind signals (count ks)) most [] bs)
-  kinds_reads most bs y = many_reads SoundKinds kind 0x02 3 (λ ks. read_kind signals (count ks)) (λ xs bs y h b i.
+  pub kinds_reads : (most : ℕ) (bs : List ℕ) → Bytes bs → Reads (λ ks. (length ks ≤ most) × SoundKinds signals ks) (all kind) bs (many 0x02 3 (λ ks. read_kind signals (count ks)) most [] bs)
+  kinds_reads most bs y = many_reads (SoundKinds signals) kind 0x02 3 (λ ks. read_kind signals (count ks)) (λ xs bs y h b i.
       reads_weaker _ _ kind (λ k v. (let j = count_push xs k in let n = v.1 in let g = i.0 in omega arith, each_push (SoundKind signals) xs k i.1 v.0)) bs _ (kind_reads (count xs) bs y h b)) most bs y (omega arith, tt)
 
   abbrev Fits : List Kind → Kind → Type 0

@@ -6,7 +6,7 @@ use Rattle.level.specs.Sound.{Each, Sound, SoundPiece, most_signals, most_kinds,
 use Rattle.level.specs.Reading.{Read, got, bad, then, when, at, read_signals, read_kinds, read_pieces, read_end, read_level, verdict, read}
 use Rattle.level.specs.Law.{Bytes}
 use Rattle.level.proofs.Steps.{reads_on}
-use Rattle.level.proofs.Sections.{SoundKinds, signals_reads, signals_read, kinds_reads, kinds_read, pieces_reads, pieces_read}
+use Rattle.level.proofs.Sections.{SoundKinds, most_two, signals_reads, signals_read, kinds_reads, kinds_read, pieces_reads, pieces_read}
 
 -- a level that was read is sound, and its spelling was all there was
 abbrev Whole : List ℕ → Read Level → Type 0
@@ -41,7 +41,7 @@ end_on bs L r (bad x) h f = tt
 level_whole : (bs : List ℕ) → Bytes bs → Whole bs (read_level bs)
 level_whole bs y = whole_if bs (leb (length bs) most_bytes) _ _ (λ t.
     reads_on (λ xs. (length xs ≤ most_signals) × Each (λ n. n ≤ 2) xs) (all signal) (Whole bs) (λ f. tt) bs (read_signals bs) _ y (signals_reads most_signals bs y) (λ ss l w q v.
-    reads_on (λ ks. (length ks ≤ most_kinds) × SoundKinds ss v.1 ks) (all kind) (Whole bs) (λ f. tt) l (read_kinds ss l) _ w (kinds_reads ss v.1 most_kinds l w) (λ ks m w' q' v'.
+    reads_on (λ ks. (length ks ≤ most_kinds) × SoundKinds ss ks) (all kind) (Whole bs) (λ f. tt) l (read_kinds ss l) _ w (kinds_reads ss (most_two ss v.1) most_kinds l w) (λ ks m w' q' v'.
     reads_on (λ ps. (length ps ≤ most_pieces) × Each (SoundPiece ks) ps) (all piece) (Whole bs) (λ f. tt) m (read_pieces (counts ks) m) _ w' (pieces_reads ks most_pieces m w') (λ ps r w'' q'' v''.
     end_on bs (record { signals = ss; kinds = ks; pieces = ps }) r (read_end r) (end_ends r) (λ e.
     let s : level (record { signals = ss; kinds = ks; pieces = ps }) ≡ bs = rw (← e, ← q'', ← q', ← q) in
@@ -61,7 +61,7 @@ level_read : (L : Level) → Sound L → read_level (level L) ≡ got L []
 level_read L s =
     let e = le-leb (length (level L)) most_bytes s.few_bytes in
     let a = signals_read most_signals L.signals (all kind L.kinds ++ (all piece L.pieces ++ (0x06 ∷ []))) s.few_signals s.signals (after_signals L.kinds L.pieces) in
-    let b = kinds_read L.signals s.signals most_kinds L.kinds (all piece L.pieces ++ (0x06 ∷ [])) s.few_kinds s.few_transitions s.kinds (after_kinds L.pieces).0 (after_kinds L.pieces).1 in
+    let b = kinds_read L.signals (most_two L.signals s.signals) most_kinds L.kinds (all piece L.pieces ++ (0x06 ∷ [])) s.few_kinds s.few_transitions s.kinds (after_kinds L.pieces).0 (after_kinds L.pieces).1 in
     let c = pieces_read L.kinds most_pieces L.pieces (0x06 ∷ []) s.few_pieces s.pieces refl refl in
     rw (e, a, b, c)
 

@@ -1,5 +1,5 @@
 -- What the code's readers promise, each of the part of a level that it reads. The law of levels does not rest on this.
-use Rattle.std.specs.Prelude.{◌≡◌, ℕ, ◌+◌, List, [], ◌∷◌, ◌++◌, length, drop, Ok, Err, Result, nat_lt}
+use Rattle.std.specs.Prelude.{◌≡◌, ℕ, ◌+◌, List, ◌++◌, length, drop, Ok, Err, Result, nat_lt}
 use Rattle.level.specs.declared.entry.Head.{Head as HeadEntry}
 use Rattle.level.specs.declared.entry.KindEntry.{KindEntry}
 use Rattle.level.specs.declared.entry.Start.{Start as StartEntry}
@@ -67,8 +67,3 @@ read_shape bs = operand 1 0 9 bs (operand 2 1 17 bs (got (record { numbers = at 
 
 abbrev pub start_entry : Start → StartEntry
 start_entry s = record { number = s.number; value = s.value }
-
--- how many numbers the pieces of each kind have, as the table says
-abbrev pub entry_counts : List KindEntry → List ℕ
-entry_counts [] = []
-entry_counts (e ∷ es) = e.numbers ∷ entry_counts es

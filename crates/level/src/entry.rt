@@ -1,7 +1,7 @@
 // What the index holds of kinds, transitions and pieces.
 
 // A kind: how many numbers and states its pieces have.
-#[derive(Clone, Copy, Debug, PartialEq, Eq)]
+#[derive(Clone, Copy, Debug, Default, PartialEq, Eq)]
 pub struct KindEntry {
     pub numbers: u8,
     pub states: u8,
@@ -9,7 +9,7 @@ pub struct KindEntry {
 
 // A transition: its kind, states and signal (0: spontaneous), the own numbers that receive the signal's parameters, and where in
 // the level's bytes its guard and its effect stand.
-#[derive(Clone, Copy, Debug, PartialEq, Eq)]
+#[derive(Clone, Copy, Debug, Default, PartialEq, Eq)]
 pub struct TransitionEntry {
     pub kind: u8,
     pub source: u8,
@@ -22,7 +22,7 @@ pub struct TransitionEntry {
 }
 
 // A piece: its kind, how many numbers it has, and what its row starts with.
-#[derive(Clone, Copy, Debug, PartialEq, Eq)]
+#[derive(Clone, Copy, Debug, Default, PartialEq, Eq)]
 pub struct PieceEntry {
     pub kind: u8,
     pub numbers: u8,
@@ -44,32 +44,4 @@ pub struct Head {
 pub struct Start {
     pub number: u8,
     pub value: i32,
-}
-
-impl KindEntry {
-    pub(crate) const BLANK: KindEntry = KindEntry {
-        numbers: 0,
-        states: 0,
-    };
-}
-
-impl TransitionEntry {
-    pub(crate) const BLANK: TransitionEntry = TransitionEntry {
-        kind: 0,
-        source: 0,
-        target: 0,
-        signal: 0,
-        first: None,
-        second: None,
-        guard: 0,
-        effect: 0,
-    };
-}
-
-impl PieceEntry {
-    pub(crate) const BLANK: PieceEntry = PieceEntry {
-        kind: 0,
-        numbers: 0,
-        starts: [0; 8],
-    };
 }

@@ -7,6 +7,6 @@ pub mod fault;
 mod index;
 mod readers;
 mod store;
-mod table;
+mod tables;
 
 pub use store::Level;

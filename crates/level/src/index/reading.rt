@@ -7,9 +7,9 @@ ghost use Rattle.level.specs.Readers.{Gives, Holds, nothing};
 
 use super::Index;
 use crate::cursor::Cursor;
-use crate::entry::{KindEntry, PieceEntry, TransitionEntry};
 use crate::fault::Reason;
-use crate::table::Table;
+use crate::tables::{Kinds, Signals};
+use arrayvec::ArrayVec;
 
 impl Index {
     // The index of a level of nothing.
@@ -17,10 +17,10 @@ impl Index {
         ensures { contents result ≡ index_of empty }
     {
         Index {
-            signals: Table::new(0),
-            kinds: Table::new(KindEntry::BLANK),
-            transitions: Table::new(TransitionEntry::BLANK),
-            pieces: Table::new(PieceEntry::BLANK),
+            signals: Signals::new(),
+            kinds: Kinds::new(),
+            transitions: ArrayVec::new(),
+            pieces: ArrayVec::new(),
         }
     }
 

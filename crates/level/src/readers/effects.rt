@@ -2,16 +2,15 @@
 ghost use Rattle.level.specs.Reading.{read_effect, read_stmt};
 ghost use Rattle.level.specs.Readers.{Gives, nothing};
 ghost use Rattle.level.specs.Sound.{most_statements};
-ghost use Rattle.level.specs.Tables.{listed};
 
 use crate::cursor::Cursor;
 use crate::fault::{OperandFault, Reason};
-use crate::table::Table;
+use crate::tables::Signals;
 
 impl<'a> Cursor<'a> {
     // A statement, in a level of these signals and a kind of so many numbers.
-    pub fn statement(&mut self, signals: &Table<u8, 32>, numbers: u8) -> Result<(), Reason>
-        ensures { Gives nothing (read_stmt (listed signals.now) numbers self.old.rest.now) result self.new.rest.now }
+    pub fn statement(&mut self, signals: &Signals, numbers: u8) -> Result<(), Reason>
+        ensures { Gives nothing (read_stmt signals.now.counts.items numbers self.old.rest.now) result self.new.rest.now }
     {
         let code = self.rest;
         let left = code.len();
@@ -31,27 +30,20 @@ impl<'a> Cursor<'a> {
                 self.expression(numbers)?;
                 self.expression(numbers)
             }
-            0x22 if code[1] < 1 => Err(Reason::Operand(OperandFault::OutOfRange)),
-            0x22 => match signals.get(code[1] as usize - 1) {
-                None => Err(Reason::Operand(OperandFault::OutOfRange)),
-                Some(parameters) => {
-                    self.advance(2);
-                    self.expression(numbers)?;
-                    self.expressions(parameters, numbers)
-                }
-            },
+            0x22 => {
+                let signal = signals.get(code[1] as usize);
+                let parameters = signal.ok_or(OperandFault::OutOfRange)?;
+                self.advance(2);
+                self.expression(numbers)?;
+                self.expressions(parameters, numbers)
+            }
             _ => Err(Reason::NotCommand),
         }
     }
 
     // The statements of an effect, of which `left` may still come, and its end.
-    pub fn statements(
-        &mut self,
-        left: u8,
-        signals: &Table<u8, 32>,
-        numbers: u8,
-    ) -> Result<(), Reason>
-        ensures { Gives nothing (read_effect (listed signals.now) numbers left self.old.rest.now) result self.new.rest.now }
+    pub fn statements(&mut self, left: u8, signals: &Signals, numbers: u8) -> Result<(), Reason>
+        ensures { Gives nothing (read_effect signals.now.counts.items numbers left self.old.rest.now) result self.new.rest.now }
     {
         let code = self.rest;
         if code.len() == 0 {
@@ -72,8 +64,8 @@ impl<'a> Cursor<'a> {
     }
 
     // A whole effect.
-    pub fn effect(&mut self, signals: &Table<u8, 32>, numbers: u8) -> Result<(), Reason>
-        ensures { Gives nothing (read_effect (listed signals.now) numbers most_statements self.old.rest.now) result self.new.rest.now }
+    pub fn effect(&mut self, signals: &Signals, numbers: u8) -> Result<(), Reason>
+        ensures { Gives nothing (read_effect signals.now.counts.items numbers most_statements self.old.rest.now) result self.new.rest.now }
     {
         self.statements(8, signals, numbers)
     }

@@ -1,25 +1,15 @@
 // The pieces of a level, and its end.
-ghost use Rattle.std.specs.Prelude.{◌≡◌, ◌+◌, ◌≤◌, [], map, length, slice_index};
+ghost use Rattle.std.specs.Prelude.{◌≡◌, ◌+◌, ◌≤◌, [], map, length};
 ghost use Rattle.level.specs.Entries.{piece_entry, starting};
 ghost use Rattle.level.specs.Reading.{at, number, read_end, read_piece, read_pieces, read_start, read_starts, room};
-ghost use Rattle.level.specs.Readers.{Gives, Holds, entry_counts, nothing, start_entry, turn};
-ghost use Rattle.level.specs.Sound.{Each};
-ghost use Rattle.level.specs.Tables.{listed};
+ghost use Rattle.level.specs.Readers.{Gives, Holds, nothing, start_entry, turn};
+ghost use Rattle.level.specs.Tables.{entry_counts};
 
 use crate::cursor::Cursor;
 use crate::entry::{KindEntry, PieceEntry, Start};
 use crate::fault::Reason;
-use crate::table::Table;
-
-// How many numbers the pieces of a kind have.
-fn numbers_of(kinds: &Table<KindEntry, 16>, kind: u8) -> u8
-    ensures { result ≡ slice_index (entry_counts (listed kinds.now)) kind }
-{
-    match kinds.get(kind as usize) {
-        Some(entry) => entry.numbers,
-        None => 0,
-    }
-}
+use crate::tables::Kinds;
+use arrayvec::ArrayVec;
 
 impl<'a> Cursor<'a> {
     // The number of 32 bits so many bytes after the next command's.
@@ -65,16 +55,15 @@ impl<'a> Cursor<'a> {
     // One piece more than the table has.
     fn piece(
         &mut self,
-        kinds: &Table<KindEntry, 16>,
-        pieces: &Table<PieceEntry, 32>,
+        kinds: &Kinds,
+        pieces: &ArrayVec<PieceEntry, 32>,
     ) -> Result<PieceEntry, Reason>
-        requires { Each (λ e. e.numbers ≤ 8) (listed kinds.now) }
-        ensures { Gives (piece_entry (entry_counts (listed kinds.now))) (turn 2 32 (length (listed pieces.now)) self.old.rest.now (read_piece (entry_counts (listed kinds.now)) self.old.rest.now)) result self.new.rest.now }
+        ensures { Gives (piece_entry (entry_counts kinds.now.entries.items)) (turn 2 32 (length pieces.now.items) self.old.rest.now (read_piece (entry_counts kinds.now.entries.items) self.old.rest.now)) result self.new.rest.now }
     {
         self.opens(2, pieces)?;
-        let kind = self.operand(1, 0, kinds.len())?;
+        let kind = self.operand(1, 0, kinds.entries.len())?;
         self.advance(2);
-        let numbers = numbers_of(kinds, kind);
+        let numbers = kinds.numbers(kind);
         let starts = self.starts(numbers)?;
         Ok(PieceEntry {
             kind,
@@ -86,13 +75,12 @@ impl<'a> Cursor<'a> {
     // All pieces, into an empty table.
     pub fn pieces(
         &mut self,
-        kinds: &Table<KindEntry, 16>,
-        pieces: &mut Table<PieceEntry, 32>,
+        kinds: &Kinds,
+        pieces: &mut ArrayVec<PieceEntry, 32>,
     ) -> Result<(), Reason>
-        requires small { Each (λ e. e.numbers ≤ 8) (listed kinds.now) }
-        requires none { listed pieces.old ≡ [] }
-        ensures read { Gives nothing (read_pieces (entry_counts (listed kinds.now)) self.old.rest.now) result self.new.rest.now }
-        ensures table { Holds (read_pieces (entry_counts (listed kinds.now)) self.old.rest.now) (λ ps. listed pieces.new ≡ map (piece_entry (entry_counts (listed kinds.now))) ps) }
+        requires { pieces.old.items ≡ [] }
+        ensures read { Gives nothing (read_pieces (entry_counts kinds.now.entries.items) self.old.rest.now) result self.new.rest.now }
+        ensures table { Holds (read_pieces (entry_counts kinds.now.entries.items) self.old.rest.now) (λ ps. pieces.new.items ≡ map (piece_entry (entry_counts kinds.now.entries.items)) ps) }
     {
         while self.sees(0x04) {
             let entry = self.piece(kinds, pieces)?;

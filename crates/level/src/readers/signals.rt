@@ -2,42 +2,28 @@
 ghost use Rattle.std.specs.Prelude.{◌≡◌, [], length};
 ghost use Rattle.level.specs.Reading.{read_signal, read_signals};
 ghost use Rattle.level.specs.Readers.{Gives, Holds, nothing, turn};
-ghost use Rattle.level.specs.Sound.{most_signals, parameters};
-ghost use Rattle.level.specs.Tables.{listed};
+ghost use Rattle.level.specs.Sound.{most_signals};
 
 use crate::cursor::Cursor;
 use crate::fault::Reason;
-use crate::table::Table;
-
-// How many parameters a signal has; signal 0 stands for none.
-pub fn parameters_of(signals: &Table<u8, 32>, signal: u8) -> u8
-    ensures { result ≡ parameters (listed signals.now) signal }
-{
-    if signal == 0 {
-        return 0;
-    }
-    match signals.get(signal as usize - 1) {
-        Some(count) => count,
-        None => 0,
-    }
-}
+use crate::tables::Signals;
 
 impl<'a> Cursor<'a> {
     // One signal more than the table has: how many parameters it has.
-    fn signal(&mut self, signals: &Table<u8, 32>) -> Result<u8, Reason>
-        ensures { Gives (λ n. n) (turn 2 32 (length (listed signals.now)) self.old.rest.now (read_signal self.old.rest.now)) result self.new.rest.now }
+    fn signal(&mut self, signals: &Signals) -> Result<u8, Reason>
+        ensures { Gives (λ n. n) (turn 2 32 (length signals.now.counts.items) self.old.rest.now (read_signal self.old.rest.now)) result self.new.rest.now }
     {
-        self.opens(2, signals)?;
+        self.opens(2, &signals.counts)?;
         let count = self.operand(1, 0, 3)?;
         self.advance(2);
         Ok(count)
     }
 
     // All signals, into an empty table.
-    pub fn signals(&mut self, signals: &mut Table<u8, 32>) -> Result<(), Reason>
-        requires { listed signals.old ≡ [] }
+    pub fn signals(&mut self, signals: &mut Signals) -> Result<(), Reason>
+        requires { signals.old.counts.items ≡ [] }
         ensures read { Gives nothing (read_signals self.old.rest.now) result self.new.rest.now }
-        ensures table { Holds (read_signals self.old.rest.now) (λ ss. listed signals.new ≡ ss) }
+        ensures table { Holds (read_signals self.old.rest.now) (λ ss. signals.new.counts.items ≡ ss) }
     {
         while self.sees(0x01) {
             let count = self.signal(signals)?;

@@ -4,11 +4,10 @@ ghost use Rattle.level.specs.declared.fault.OperandFault.TheVariants.{OutOfRange
 ghost use Rattle.level.specs.declared.fault.Reason.TheVariants.{Truncated};
 ghost use Rattle.level.specs.Reading.{at};
 ghost use Rattle.level.specs.Readers.{Gives, nothing, opened};
-ghost use Rattle.level.specs.Tables.{listed};
 
 use crate::cursor::Cursor;
 use crate::fault::{OperandFault, Reason};
-use crate::table::Table;
+use arrayvec::ArrayVec;
 
 impl<'a> Cursor<'a> {
     // Past so many bytes.
@@ -58,17 +57,19 @@ impl<'a> Cursor<'a> {
     }
 
     // Whether the next command's bytes are all there, and the table has a place for one entry more.
-    pub fn opens<T: Copy, const N: usize>(
+    pub fn opens<T, const N: usize>(
         &mut self,
         size: usize,
-        table: &Table<T, N>,
+        table: &ArrayVec<T, N>,
     ) -> Result<(), Reason>
-        ensures { Gives nothing (opened size N (length (listed table.now)) self.old.rest.now) result self.new.rest.now }
+        ensures { Gives nothing (opened size N (length table.now.items) self.old.rest.now) result self.new.rest.now }
     {
         if self.rest.len() < size {
             return Err(self.truncated());
         }
-        table.room()?;
+        if table.is_full() {
+            return Err(OperandFault::TooMany.into());
+        }
         Ok(())
     }
 }

@@ -5,14 +5,13 @@ ghost use Rattle.level.specs.Entries.{transition_entry};
 ghost use Rattle.level.specs.Places.{in_kind, placed_at};
 ghost use Rattle.level.specs.Reading.{at, read_transition, read_transitions};
 ghost use Rattle.level.specs.Readers.{Gives, Holds, head_entry, nothing, read_head, turn};
-ghost use Rattle.level.specs.Sound.{Each, most_transitions};
-ghost use Rattle.level.specs.Tables.{listed};
+ghost use Rattle.level.specs.Sound.{most_transitions};
 
 use crate::cursor::Cursor;
 use crate::entry::{Head, KindEntry, TransitionEntry};
 use crate::fault::{OperandFault, Reason};
-use crate::readers::signals::parameters_of;
-use crate::table::Table;
+use crate::tables::Signals;
+use arrayvec::ArrayVec;
 
 impl<'a> Cursor<'a> {
     // The number into which a parameter is received, where one stands; else the place must hold FF.
@@ -31,14 +30,14 @@ impl<'a> Cursor<'a> {
     }
 
     // The operands of a transition, in a kind of this shape.
-    fn head(&mut self, shape: KindEntry, signals: &Table<u8, 32>) -> Result<Head, Reason>
+    fn head(&mut self, shape: KindEntry, signals: &Signals) -> Result<Head, Reason>
         requires { 6 ≤ length self.old.rest.now }
-        ensures { Gives head_entry (read_head (listed signals.now) shape.numbers shape.states self.old.rest.now) result self.new.rest.now }
+        ensures { Gives head_entry (read_head signals.now.counts.items shape.numbers shape.states self.old.rest.now) result self.new.rest.now }
     {
         let source = self.operand(1, 0, shape.states as usize)?;
         let target = self.operand(2, 0, shape.states as usize)?;
-        let signal = self.operand(3, 0, signals.len() + 1)?;
-        let parameters = parameters_of(signals, signal);
+        let signal = self.operand(3, 0, signals.counts.len() + 1)?;
+        let parameters = signals.parameters(signal);
         let first = self.receiver(4, parameters > 0, shape.numbers)?;
         let second = self.receiver(5, parameters > 1, shape.numbers)?;
         self.advance(6);
@@ -57,11 +56,11 @@ impl<'a> Cursor<'a> {
         total: usize,
         number: u8,
         shape: KindEntry,
-        signals: &Table<u8, 32>,
-        transitions: &Table<TransitionEntry, 128>,
+        signals: &Signals,
+        transitions: &ArrayVec<TransitionEntry, 128>,
     ) -> Result<TransitionEntry, Reason>
         requires { length self.old.rest.now ≤ total }
-        ensures { Gives (λ t. transition_entry (placed_at number shape.numbers (total - length self.old.rest.now) t)) (turn 6 128 (length (listed transitions.now)) self.old.rest.now (read_transition (listed signals.now) shape.numbers shape.states self.old.rest.now)) result self.new.rest.now }
+        ensures { Gives (λ t. transition_entry (placed_at number shape.numbers (total - length self.old.rest.now) t)) (turn 6 128 (length transitions.now.items) self.old.rest.now (read_transition signals.now.counts.items shape.numbers shape.states self.old.rest.now)) result self.new.rest.now }
     {
         self.opens(6, transitions)?;
         let head = self.head(shape, signals)?;
@@ -94,13 +93,12 @@ impl<'a> Cursor<'a> {
         total: usize,
         number: u8,
         shape: KindEntry,
-        signals: &Table<u8, 32>,
-        transitions: &mut Table<TransitionEntry, 128>,
+        signals: &Signals,
+        transitions: &mut ArrayVec<TransitionEntry, 128>,
     ) -> Result<(), Reason>
         requires short { length self.old.rest.now ≤ total }
-        requires few { Each (λ n. n ≤ 2) (listed signals.now) }
-        ensures read { Gives nothing (read_transitions (listed signals.now) shape.numbers shape.states (128 - length (listed transitions.old)) self.old.rest.now) result self.new.rest.now }
-        ensures table { Holds (read_transitions (listed signals.now) shape.numbers shape.states (128 - length (listed transitions.old)) self.old.rest.now) (λ ts. listed transitions.new ≡ listed transitions.old ++ map transition_entry (in_kind number shape.numbers (total - length self.old.rest.now) ts)) }
+        ensures read { Gives nothing (read_transitions signals.now.counts.items shape.numbers shape.states (128 - length transitions.old.items) self.old.rest.now) result self.new.rest.now }
+        ensures table { Holds (read_transitions signals.now.counts.items shape.numbers shape.states (128 - length transitions.old.items) self.old.rest.now) (λ ts. transitions.new.items ≡ transitions.old.items ++ map transition_entry (in_kind number shape.numbers (total - length self.old.rest.now) ts)) }
     {
         while self.sees(0x03) {
             let entry = self.transition(total, number, shape, signals, transitions)?;

@@ -28,14 +28,14 @@ impl<'a> Level<'a> {
     pub fn piece(&self, number: usize) -> Option<PieceEntry>
         ensures { result ≡ nth (map (piece_entry (counts (meaning self.now).kinds)) (meaning self.now).pieces) number }
     {
-        self.index.pieces.get(number)
+        self.index.pieces.get(number).copied()
     }
 
     // The kind of this number, if there is one.
     pub fn kind(&self, number: usize) -> Option<KindEntry>
         ensures { result ≡ nth (map kind_entry (meaning self.now).kinds) number }
     {
-        self.index.kinds.get(number)
+        self.index.kinds.entries.get(number).copied()
     }
 
     // All transitions, in the level's order: a transition's number is its place here.
@@ -49,16 +49,13 @@ impl<'a> Level<'a> {
     pub fn transition(&self, number: usize) -> Option<TransitionEntry>
         ensures { result ≡ nth (map transition_entry (placed (meaning self.now))) number }
     {
-        self.index.transitions.get(number)
+        self.index.transitions.get(number).copied()
     }
 
     // How many parameters this signal has; signals are numbered from 1.
     pub fn parameters(&self, signal: usize) -> Option<u8>
         ensures { result ≡ signal_parameters (meaning self.now).signals signal }
     {
-        if signal == 0 {
-            return None;
-        }
-        self.index.signals.get(signal - 1)
+        self.index.signals.get(signal)
     }
 }

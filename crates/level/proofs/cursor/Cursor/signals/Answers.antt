@@ -4,8 +4,8 @@ use Rattle.std.proofs.lemmas.Bool.Decides.{nat_tests}
 use Rattle.level.specs.Reading.{read_signal}
 use Rattle.level.specs.Readers.{nothing}
 use Rattle.level.specs.Sound.{most_signals}
-use Rattle.level.specs.Tables.{listed}
 use Rattle.level.proofs.Fills.{ends, breaks, again, turn_at, holds_none}
+use Rattle.level.proofs.Listing.{signal_fits}
 use Rattle.level.proofs.Turns.{done}
 use Rattle.level.proofs.Limits.{signals_limit}
 use Rattle.level.proofs.cursor.Cursor.signals.Goals as goal
@@ -18,11 +18,16 @@ returns-in_err-count c =
     let g = breaks 0x01 2 most_signals (λ _. read_signal) _ _ c.loop-self.self.rest.now s (λ n. n) (eqb-true _ _ (sym c.loop-self-test.ensures)) nothing _ _ t in
     record { read = rw (p.1, p.2) g; table = holds_none nothing _ _ _ _ g }
 
+pub push-requires : goal.push-requires
+push-requires c =
+    let k = signal_fits _ c.loop-self.self.rest.now c.loop-self.self.octets (eqb-true _ _ (sym c.loop-self-test.ensures)) _ _ c.in_ok-count.ensures in
+    record { room = k.0; few = k.1 }
+
 pub loop-self-preserved : goal.loop-self-preserved
 loop-self-preserved c =
     let s = c.loop-self.invariant in
     let t = turn_at (λ n. n) 2 32 most_signals _ (length s.so_far) c.loop-self.self.rest.now (read_signal c.loop-self.self.rest.now) signals_limit (ap length s.known) _ _ c.in_ok-count.ensures in
-    again 0x01 2 most_signals (λ _. read_signal) _ _ c.loop-self.self.rest.now s (λ n. n) (eqb-true _ _ (sym c.loop-self-test.ensures)) (λ ss. listed c.push.new.self ≡ ss) _ _ t
+    again 0x01 2 most_signals (λ _. read_signal) _ _ c.loop-self.self.rest.now s (λ n. n) (eqb-true _ _ (sym c.loop-self-test.ensures)) (λ ss. c.push.new.self.counts.items ≡ ss) _ _ t
     (λ x h m e q. c.push.ensures ∙ rw (s.known, q))
 
 pub returns : goal.returns

@@ -18,7 +18,7 @@ pub returns-in-Ok : goal.returns-in-Ok
 returns-in-Ok c =
     let s = found c.args.bytes.now (omega arith) _ c.in-Ok.ensures.read (contents c.read.new.self) c.in-Ok.ensures.index in
     record {
-      answer = ap Ok (c.len-pieces.ensures ∙ pieces_counted _ _ s) ∙ sym (ap loaded s.reads);
+      answer = ap Ok (c.len-pieces.ensures.value ∙ pieces_counted _ _ s) ∙ sym (ap loaded s.reads);
       after = rw s.reads;
       law = level_law;
     }

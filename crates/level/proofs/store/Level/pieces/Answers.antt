@@ -9,4 +9,4 @@ use Rattle.level.proofs.store.Level.pieces.Goals as goal
 pub returns : goal.returns
 returns c =
     let L = meaning c.args.self.now in
-    c.len.ensures ∙ (ap length (held_pieces c.args.self.now) ∙ length-map L.pieces (piece_entry (counts L.kinds)))
+    c.len.ensures.value ∙ (ap length (held_pieces c.args.self.now) ∙ length-map L.pieces (piece_entry (counts L.kinds)))
