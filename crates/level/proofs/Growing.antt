@@ -91,9 +91,6 @@ module _ (signals : List ℕ) (few : (k : ℕ) → get_or signals k 0 ≤ 2) (n 
             let e = ap length (stood w.0 t.0 t.2) ∙ length-append (transition w.0) l in
             omega arith
 
-    pub transitions_short : length bs ≤ total
-    transitions_short = let e = ap length s.known.0 ∙ length-append (all transition s.so_far) bs in omega arith
-
     pub transitions_done : (at bs 0 ≡ 0x03 → ⊥) → whole ≡ got s.so_far bs
     transitions_done h = ends 0x03 6 most item (Grown table bs) whole bs s h
 
@@ -180,9 +177,6 @@ module _ (signals : List ℕ) (few : (k : ℕ) → get_or signals k 0 ≤ 2) (to
             let t = turn_got 3 16 (length rows) bs (read_kind signals (length table) bs) w.0 l w.1 in
             let e = ap length (kind_stood (length table) w.0 t.0 t.2) ∙ length-append (kind w.0) l in
             omega arith
-
-    pub kinds_short : length bs ≤ total
-    kinds_short = let e = ap length s.known.0 ∙ length-append (all kind s.so_far) bs in omega arith
 
     pub kinds_done : (at bs 0 ≡ 0x02 → ⊥) → all_kinds ≡ got s.so_far bs
     kinds_done h = ends 0x02 3 most_kinds kind_item (GrownKinds total bs₀ rows table bs) all_kinds bs s h

@@ -1,5 +1,5 @@
 -- The operands of a transition, as the code checks them one after another.
-use Rattle.std.proofs.Common.{◌≡◌, ℕ, ◌+◌, ◌<◌, Bool, true, false, cond, ◌&&◌, ltb, leb, List, ◌++◌, length, drop, Some, None, Ok, Err, Option, Result, sym, refl, ◌∙◌, arith}
+use Rattle.std.proofs.Common.{◌≡◌, ℕ, ◌+◌, ◌-◌, ◌<◌, ◌≤◌, Bool, true, false, cond, ◌&&◌, ltb, leb, List, ◌++◌, length, drop, Some, None, Ok, Err, Option, Result, sym, refl, ap, ◌∙◌, arith, length-drop}
 use Rattle.std.proofs.lemmas.Bool.Decides.{nat_tests}
 use Rattle.level.specs.declared.fault.OperandFault.{OperandFault}
 use Rattle.level.specs.declared.fault.OperandFault.TheVariants.{OutOfRange}
@@ -80,12 +80,15 @@ module _ (signals : List ℕ) (n m : ℕ) (bs : List ℕ) (x y z p k : ℕ) (f :
   second_fails o e g h = so_far ∙ (receiver_passes n bs 4 (ltb 0 p) o g _ ∙ receiver_fails n bs 5 (ltb 1 p) e h _)
 
   pub head_passes : (o q : Option ℕ) → Receives n bs 4 (ltb 0 p) (Ok o) → Receives n bs 5 (ltb 1 p) (Ok q) → (l : List ℕ) → l ≡ drop 6 bs
-      → Gives head_entry (read_head signals n m bs) (Ok (record { source = x; target = y; signal = z; first = o; second = q })) l
-  head_passes o q g h l e =
+      → (total : ℕ) → length bs ≤ total → 6 ≤ length bs → (number i : ℕ) → i ≡ total - length l
+      → Gives (head_entry number (total - length bs + 6)) (read_head signals n m bs) (Ok (record { kind = number; source = x; target = y; signal = z; first = o; second = q; guard = i; effect = i })) l
+  head_passes o q g h l e total short six number place w =
+      let drops = ap length e ∙ length-drop 6 bs in
+      let stands : place ≡ total - length bs + 6 = omega arith in
       let two = seconds (ltb 0 p) (ltb 1 p) (at bs 4) (at bs 5) (λ u. let k : 1 < p = grind (arith, nat_tests) in grind (arith, nat_tests)) in
       let a = value bs 1 0 m (at bs 1) x f in
       let b = value bs 2 0 m (at bs 2) y t in
       let d = value bs 3 0 (length signals + 1) (at bs 3) z s in
       let i = receiver_value n bs 4 (ltb 0 p) o g ∙ sym two.0 in
       let r = receiver_value n bs 5 (ltb 1 p) q h ∙ sym two.1 in
-      done head_entry _ (head_at signals n m bs p) (drop 6 bs) (so_far ∙ (receiver_passes n bs 4 (ltb 0 p) o g _ ∙ receiver_passes n bs 5 (ltb 1 p) q h _)) _ l (rw (a, b, d, i, r)) e
+      done (head_entry number (total - length bs + 6)) _ (head_at signals n m bs p) (drop 6 bs) (so_far ∙ (receiver_passes n bs 4 (ltb 0 p) o g _ ∙ receiver_passes n bs 5 (ltb 1 p) q h _)) _ l (rw (a, b, d, i, r, stands)) e

@@ -53,9 +53,6 @@ module _ (bs : List ℕ) (y : Bytes bs) (total : ℕ) (same : total ≡ length b
     lengths : length bs ≡ length (all signal ss) + length l1
     lengths = ap length spelled_signals.0 ∙ length-append (all signal ss) l1
 
-    pub short : length l1 ≤ total
-    short = let e = lengths in omega arith
-
     starts_at : total - length l1 ≡ length (all signal ss)
     starts_at = let e = lengths in omega arith
 

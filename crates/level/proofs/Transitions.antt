@@ -1,6 +1,5 @@
 -- One transition, as the code reads it: its operands, its guard, its effect.
 use Rattle.std.proofs.Common.{◌≡◌, ℕ, ◌+◌, ◌-◌, ◌<◌, ◌≤◌, Bool, true, false, ◌&&◌, ltb, leb, List, length, drop, Ok, Err, Result, sym, refl, ap, ◌∙◌, subst, arith, length-append, length-drop, lt-ltb}
-use Rattle.level.specs.declared.entry.Head.{Head as HeadEntry}
 use Rattle.level.specs.declared.entry.TransitionEntry.{TransitionEntry}
 use Rattle.level.specs.declared.fault.OperandFault.TheVariants.{OutOfRange}
 use Rattle.level.specs.declared.fault.Reason.{Reason}
@@ -69,11 +68,11 @@ head_six : (signals : List ℕ) (n m : ℕ) (bs : List ℕ) → Drops 6 bs (read
 head_six signals n m bs = drops_operand 6 bs 1 0 m _ (drops_operand 6 bs 2 0 m _ (drops_operand 6 bs 3 0 (length signals + 1) _
     (drops_receiver 6 bs n (ltb 0 (parameters signals (at bs 3))) 4 _ (drops_receiver 6 bs n (ltb 1 (parameters signals (at bs 3))) 5 _ refl))))
 
-abbrev entered : ℕ → HeadEntry → ℕ → ℕ → TransitionEntry
-entered k h i j = record { kind = k; source = h.source; target = h.target; signal = h.signal; first = h.first; second = h.second; guard = i; effect = j }
+abbrev entered : TransitionEntry → ℕ → TransitionEntry
+entered h j = record { kind = h.kind; source = h.source; target = h.target; signal = h.signal; first = h.first; second = h.second; guard = h.guard; effect = j }
 
-entered_same : (k : ℕ) (h g : HeadEntry) (i j u v : ℕ) → h ≡ g → i ≡ u → j ≡ v → entered k h i j ≡ entered k g u v
-entered_same k h g i j u v p q r = rw (p, q, r)
+entered_same : (h g : TransitionEntry) (j v : ℕ) → h ≡ g → j ≡ v → entered h j ≡ entered g v
+entered_same h g j v p q = rw (p, q)
 
 module _ (signals : List ℕ) (n m total number N : ℕ) (bs l0 : List ℕ) (o : Gives nothing (opened 6 128 N bs) (Ok tt) l0) (y : Bytes bs) (short : length bs ≤ total) where
   abbrev W : Read Transition
@@ -81,6 +80,9 @@ module _ (signals : List ℕ) (n m total number N : ℕ) (bs l0 : List ℕ) (o :
 
   abbrev E : Transition → TransitionEntry
   E t = transition_entry (placed_at number n (total - length bs) t)
+
+  abbrev headed : List ℕ → Head → TransitionEntry
+  headed l d = head_entry number (total - length l + 6) d
 
   there : (6 ≤ length bs) × (N < 128) × (bs ≡ l0)
   there =
@@ -91,12 +93,12 @@ module _ (signals : List ℕ) (n m total number N : ℕ) (bs l0 : List ℕ) (o :
   whole : W ≡ then (read_head signals n m l0) (code signals n)
   whole = room_in 6 bs _ there.0 ∙ (rw (lt-ltb N 128 there.1) (transition_then signals n m bs ∙ ap (λ z. then (read_head signals n m z) (code signals n)) there.2))
 
-  pub head_broke : (e : Reason) (l : List ℕ) → Gives head_entry (read_head signals n m l0) (Err e) l → (s : Result TransitionEntry Reason) → s ≡ Err e → Gives E W s l
-  head_broke e l h s q = broke W (read_head signals n m) (code signals n) l0 l0 whole refl head_entry E e l h s q
+  pub head_broke : (e : Reason) (l : List ℕ) → Gives (headed l0) (read_head signals n m l0) (Err e) l → (s : Result TransitionEntry Reason) → s ≡ Err e → Gives E W s l
+  head_broke e l h s q = broke W (read_head signals n m) (code signals n) l0 l0 whole refl (headed l0) E e l h s q
 
-  module _ (h : HeadEntry) (l1 : List ℕ) (g : Gives head_entry (read_head signals n m l0) (Ok h) l1) where
-    head_is : (d : Head) × (W ≡ code signals n d l1) × (h ≡ head_entry d) × (read_head signals n m l0 ≡ got d l1)
-    head_is = goes_on W (read_head signals n m) (code signals n) l0 l0 whole refl head_entry h l1 g
+  module _ (h : TransitionEntry) (l1 : List ℕ) (g : Gives (headed l0) (read_head signals n m l0) (Ok h) l1) where
+    head_is : (d : Head) × (W ≡ code signals n d l1) × (h ≡ headed l0 d) × (read_head signals n m l0 ≡ got d l1)
+    head_is = goes_on W (read_head signals n m) (code signals n) l0 l0 whole refl (headed l0) h l1 g
 
     abbrev effects : Expr → List ℕ → Read Transition
     effects e l = then (read_effect signals n most_statements l) (λ cs r.
@@ -121,13 +123,13 @@ module _ (signals : List ℕ) (n m total number N : ℕ) (bs l0 : List ℕ) (o :
           let r = subst (Reads (SoundExpr deepest n) expression l1) guard_is.3 (expr_reads deepest n l1 (subst Bytes (sym guard_at) (bytes_drop 6 bs y))) in
           ap length r.0 ∙ length-append (expression guard_is.0) l2
 
-      pub made : (l3 : List ℕ) → Gives nothing (read_effect signals n most_statements l2) (Ok tt) l3 → (i j : ℕ) → i ≡ total - length l1 → j ≡ total - length l2
-          → Gives E W (Ok (entered number h i j)) l3
-      made l3 x i j p q =
+      pub made : (l3 : List ℕ) → Gives nothing (read_effect signals n most_statements l2) (Ok tt) l3 → (j : ℕ) → j ≡ total - length l2
+          → Gives E W (Ok (entered h j)) l3
+      made l3 x j q =
           let w = goes_on W (read_effect signals n most_statements) _ l2 l2 guard_is.1 refl nothing tt l3 x in
           let k = guard_size in
           let six = there.0 in
           let u : length l1 ≡ length bs - 6 = ap length guard_at ∙ length-drop 6 bs in
-          let v : i ≡ total - length bs + 6 = omega arith in
+          let v : h ≡ headed bs head_is.0 = head_is.2 ∙ ap (λ l. headed l head_is.0) (sym there.2) in
           let z : j ≡ total - length bs + 6 + size guard_is.0 = omega arith in
-          done E W _ l3 w.1 _ l3 (entered_same number h _ i j _ _ head_is.2 v z) refl
+          done E W _ l3 w.1 _ l3 (entered_same h _ j _ v z) refl

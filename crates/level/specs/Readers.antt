@@ -1,8 +1,8 @@
 -- What the code's readers promise, each of the part of a level that it reads. The law of levels does not rest on this.
-use Rattle.std.specs.Prelude.{◌≡◌, ℕ, ◌+◌, List, ◌++◌, length, drop, Ok, Err, Result, nat_lt}
-use Rattle.level.specs.declared.entry.Head.{Head as HeadEntry}
+use Rattle.std.specs.Prelude.{◌≡◌, ℕ, ◌+◌, List, ◌++◌, length, drop, ℤ, Ok, Err, Result, nat_lt}
+use Rattle.level.specs.declared.cursor.Cursor.{Cursor}
 use Rattle.level.specs.declared.entry.KindEntry.{KindEntry}
-use Rattle.level.specs.declared.entry.Start.{Start as StartEntry}
+use Rattle.level.specs.declared.entry.TransitionEntry.{TransitionEntry}
 use Rattle.level.specs.declared.fault.OperandFault.TheVariants.{TooMany}
 use Rattle.level.specs.declared.fault.Reason.{Reason}
 use Rattle.level.specs.declared.fault.Reason.TheVariants.{Operand}
@@ -23,10 +23,15 @@ remains (bad x) = x.from
 abbrev pub nothing : {A : Type 0} → A → Unit {0}
 nothing a = tt
 
--- both at once: the promise of the code's readers, where `f` is what is made of what was read
+-- both at once, where `f` is what is made of what was read
 pub record Gives {A B : Type 0} (f : A → B) (R : Read A) (r : Result B Reason) (l : List ℕ) : Type 0 where
   pub answer : r ≡ answered f R
   pub rest : l ≡ remains R
+
+-- the promise of the code's readers: the cursor moves on within its level
+pub record Moves {A B : Type 0} (f : A → B) (R : Read A) (r : Result B Reason) (before after : Cursor) : Type 0 where
+  pub gives : Gives f R r after.rest.now
+  pub stays : after.total ≡ before.total
 
 -- one item of `many`, after `n` others
 abbrev pub turn : {A : Type 0} → ℕ → ℕ → ℕ → List ℕ → Read A → Read A
@@ -58,12 +63,13 @@ module _ (signals : List ℕ) (n m : ℕ) (bs : List ℕ) where
   abbrev pub read_head : Read Head
   read_head = operand 1 0 m bs (operand 2 0 m bs (operand 3 0 (length signals + 1) bs (receivers_at (parameters signals (at bs 3)))))
 
-abbrev pub head_entry : Head → HeadEntry
-head_entry h = record { source = h.source; target = h.target; signal = h.signal; first = nth h.receives 0; second = nth h.receives 1 }
+-- a transition of kind `k` whose guard stands at `i`, before its effect's place is known
+abbrev pub head_entry : ℕ → ℕ → Head → TransitionEntry
+head_entry k i h = record { kind = k; source = h.source; target = h.target; signal = h.signal; first = nth h.receives 0; second = nth h.receives 1; guard = i; effect = i }
 
 -- the operands of a kind
 abbrev pub read_shape : List ℕ → Read KindEntry
 read_shape bs = operand 1 0 9 bs (operand 2 1 17 bs (got (record { numbers = at bs 1; states = at bs 2 }) (drop 3 bs)))
 
-abbrev pub start_entry : Start → StartEntry
-start_entry s = record { number = s.number; value = s.value }
+abbrev pub start_pair : Start → ℕ × ℤ
+start_pair s = (s.number, s.value)

@@ -6,6 +6,7 @@ pub mod entry;
 pub mod fault;
 mod index;
 mod readers;
+mod scope;
 mod store;
 mod tables;
 

@@ -3,7 +3,7 @@ ghost use Rattle.std.specs.Prelude.{◌≡◌, length};
 ghost use Rattle.level.specs.Contents.{contents};
 ghost use Rattle.level.specs.Entries.{index_of};
 ghost use Rattle.level.specs.Reading.{empty, read_sections};
-ghost use Rattle.level.specs.Readers.{Gives, Holds, nothing};
+ghost use Rattle.level.specs.Readers.{Holds, Moves, nothing};
 
 use super::Index;
 use crate::cursor::Cursor;
@@ -24,15 +24,15 @@ impl Index {
         }
     }
 
-    // Section by section, from the first byte of a level of `total` bytes.
-    pub fn read(&mut self, cursor: &mut Cursor, total: usize) -> Result<(), Reason>
+    // Section by section, from the first byte of the level.
+    pub fn read(&mut self, cursor: &mut Cursor) -> Result<(), Reason>
         requires none { contents self.old ≡ index_of empty }
-        requires whole { total ≡ length cursor.old.rest.now }
-        ensures read { Gives nothing (read_sections cursor.old.rest.now) result cursor.new.rest.now }
+        requires whole { cursor.old.total ≡ length cursor.old.rest.now }
+        ensures read { Moves nothing (read_sections cursor.old.rest.now) result cursor.old cursor.new }
         ensures index { Holds (read_sections cursor.old.rest.now) (λ L. contents self.new ≡ index_of L) }
     {
         cursor.signals(&mut self.signals)?;
-        cursor.kinds(total, &self.signals, &mut self.kinds, &mut self.transitions)?;
+        cursor.kinds(&self.signals, &mut self.kinds, &mut self.transitions)?;
         cursor.pieces(&self.kinds, &mut self.pieces)?;
         cursor.end()
     }

@@ -1,17 +1,18 @@
 // Statements and effects.
 ghost use Rattle.level.specs.Reading.{read_effect, read_stmt};
-ghost use Rattle.level.specs.Readers.{Gives, nothing};
+ghost use Rattle.level.specs.Readers.{Moves, nothing};
 ghost use Rattle.level.specs.Sound.{most_statements};
 
 use crate::cursor::Cursor;
 use crate::fault::{OperandFault, Reason};
-use crate::tables::Signals;
+use crate::scope::Scope;
 
 impl<'a> Cursor<'a> {
-    // A statement, in a level of these signals and a kind of so many numbers.
-    pub fn statement(&mut self, signals: &Signals, numbers: u8) -> Result<(), Reason>
-        ensures { Gives nothing (read_stmt signals.now.counts.items numbers self.old.rest.now) result self.new.rest.now }
+    // A statement.
+    pub fn statement(&mut self, scope: &Scope<'_>) -> Result<(), Reason>
+        ensures { Moves nothing (read_stmt scope.now.signals.now.counts.items scope.now.shape.numbers self.old.rest.now) result self.old self.new }
     {
+        let numbers = scope.shape.numbers;
         let code = self.rest;
         let left = code.len();
         if left == 0 {
@@ -31,7 +32,7 @@ impl<'a> Cursor<'a> {
                 self.expression(numbers)
             }
             0x22 => {
-                let signal = signals.get(code[1] as usize);
+                let signal = scope.signals.get(code[1] as usize);
                 let parameters = signal.ok_or(OperandFault::OutOfRange)?;
                 self.advance(2);
                 self.expression(numbers)?;
@@ -42,8 +43,8 @@ impl<'a> Cursor<'a> {
     }
 
     // The statements of an effect, of which `left` may still come, and its end.
-    pub fn statements(&mut self, left: u8, signals: &Signals, numbers: u8) -> Result<(), Reason>
-        ensures { Gives nothing (read_effect signals.now.counts.items numbers left self.old.rest.now) result self.new.rest.now }
+    pub fn statements(&mut self, left: u8, scope: &Scope<'_>) -> Result<(), Reason>
+        ensures { Moves nothing (read_effect scope.now.signals.now.counts.items scope.now.shape.numbers left self.old.rest.now) result self.old self.new }
     {
         let code = self.rest;
         if code.len() == 0 {
@@ -56,17 +57,17 @@ impl<'a> Cursor<'a> {
             }
             0x20..=0x22 if left == 0 => Err(Reason::TooManyStatements),
             0x20..=0x22 => {
-                self.statement(signals, numbers)?;
-                self.statements(left - 1, signals, numbers)
+                self.statement(scope)?;
+                self.statements(left - 1, scope)
             }
             _ => Err(Reason::NotCommand),
         }
     }
 
     // A whole effect.
-    pub fn effect(&mut self, signals: &Signals, numbers: u8) -> Result<(), Reason>
-        ensures { Gives nothing (read_effect signals.now.counts.items numbers most_statements self.old.rest.now) result self.new.rest.now }
+    pub fn effect(&mut self, scope: &Scope<'_>) -> Result<(), Reason>
+        ensures { Moves nothing (read_effect scope.now.signals.now.counts.items scope.now.shape.numbers most_statements self.old.rest.now) result self.old self.new }
     {
-        self.statements(8, signals, numbers)
+        self.statements(8, scope)
     }
 }

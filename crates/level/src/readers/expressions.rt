@@ -1,6 +1,6 @@
 // Expressions, by recursion over the prefix code.
 ghost use Rattle.level.specs.Reading.{read_expr, read_exprs};
-ghost use Rattle.level.specs.Readers.{Gives, nothing};
+ghost use Rattle.level.specs.Readers.{Moves, nothing};
 ghost use Rattle.level.specs.Sound.{deepest};
 
 use crate::cursor::Cursor;
@@ -9,7 +9,7 @@ use crate::fault::{OperandFault, Reason};
 impl<'a> Cursor<'a> {
     // An expression nested at most `depth` deep, in a kind of so many numbers.
     pub fn nested(&mut self, depth: u8, numbers: u8) -> Result<(), Reason>
-        ensures { Gives nothing (read_expr depth numbers self.old.rest.now) result self.new.rest.now }
+        ensures { Moves nothing (read_expr depth numbers self.old.rest.now) result self.old self.new }
     {
         let code = self.rest;
         let left = code.len();
@@ -54,14 +54,14 @@ impl<'a> Cursor<'a> {
 
     // A whole expression.
     pub fn expression(&mut self, numbers: u8) -> Result<(), Reason>
-        ensures { Gives nothing (read_expr deepest numbers self.old.rest.now) result self.new.rest.now }
+        ensures { Moves nothing (read_expr deepest numbers self.old.rest.now) result self.old self.new }
     {
         self.nested(8, numbers)
     }
 
     // So many expressions.
     pub fn expressions(&mut self, count: u8, numbers: u8) -> Result<(), Reason>
-        ensures { Gives nothing (read_exprs count numbers self.old.rest.now) result self.new.rest.now }
+        ensures { Moves nothing (read_exprs count numbers self.old.rest.now) result self.old self.new }
     {
         if count == 0 {
             return Ok(());

@@ -1,53 +1,39 @@
 // The pieces of a level, and its end.
 ghost use Rattle.std.specs.Prelude.{◌≡◌, ◌+◌, ◌≤◌, [], map, length};
 ghost use Rattle.level.specs.Entries.{piece_entry, starting};
-ghost use Rattle.level.specs.Reading.{at, number, read_end, read_piece, read_pieces, read_start, read_starts, room};
-ghost use Rattle.level.specs.Readers.{Gives, Holds, nothing, start_entry, turn};
+ghost use Rattle.level.specs.Reading.{read_end, read_piece, read_pieces, read_start, read_starts, room};
+ghost use Rattle.level.specs.Readers.{Holds, Moves, nothing, start_pair, turn};
 ghost use Rattle.level.specs.Tables.{entry_counts};
 
 use crate::cursor::Cursor;
-use crate::entry::{KindEntry, PieceEntry, Start};
+use crate::entry::PieceEntry;
 use crate::fault::Reason;
 use crate::tables::Kinds;
 use arrayvec::ArrayVec;
 
 impl<'a> Cursor<'a> {
-    // The number of 32 bits so many bytes after the next command's.
-    fn word(&self, after: usize) -> i32
-        requires { after + 4 ≤ length self.now.rest.now }
-        ensures { result ≡ number (at self.now.rest.now after) (at self.now.rest.now (after + 1)) (at self.now.rest.now (after + 2)) (at self.now.rest.now (after + 3)) }
+    // One starting number of a piece that has so many: its index, and the number of 32 bits.
+    fn start(&mut self, numbers: u8) -> Result<(u8, i32), Reason>
+        ensures { Moves start_pair (room 6 self.old.rest.now (read_start numbers self.old.rest.now)) result self.old self.new }
     {
-        let code = self.rest;
-        i32::from_be_bytes([
-            code[after],
-            code[after + 1],
-            code[after + 2],
-            code[after + 3],
-        ])
-    }
-
-    // One starting number of a piece that has so many.
-    fn start(&mut self, numbers: u8) -> Result<Start, Reason>
-        ensures { Gives start_entry (room 6 self.old.rest.now (read_start numbers self.old.rest.now)) result self.new.rest.now }
-    {
-        if self.rest.len() < 6 {
+        let [_, _, a, b, c, d, ..] = self.rest else {
             return Err(self.truncated());
-        }
+        };
+        let value = i32::from_be_bytes([*a, *b, *c, *d]);
         let number = self.operand(1, 0, numbers as usize)?;
-        let value = self.word(2);
         self.advance(6);
-        Ok(Start { number, value })
+        Ok((number, value))
     }
 
     // What the row of a piece starts with.
     fn starts(&mut self, numbers: u8) -> Result<[i32; 8], Reason>
         requires { numbers ≤ 8 }
-        ensures { Gives starting (read_starts numbers (length self.old.rest.now + 2) self.old.rest.now) result self.new.rest.now }
+        ensures { Moves starting (read_starts numbers (length self.old.rest.now + 2) self.old.rest.now) result self.old self.new }
     {
-        let mut row = [0i32; 8];
+        let mut row = [0; 8];
         while self.sees(0x05) {
-            let start = self.start(numbers)?;
-            row[start.number as usize] = start.value;
+            let (number, value) = self.start(numbers)?;
+            row[number as usize] = value;
         }
         Ok(row)
     }
@@ -58,7 +44,7 @@ impl<'a> Cursor<'a> {
         kinds: &Kinds,
         pieces: &ArrayVec<PieceEntry, 32>,
     ) -> Result<PieceEntry, Reason>
-        ensures { Gives (piece_entry (entry_counts kinds.now.entries.items)) (turn 2 32 (length pieces.now.items) self.old.rest.now (read_piece (entry_counts kinds.now.entries.items) self.old.rest.now)) result self.new.rest.now }
+        ensures { Moves (piece_entry (entry_counts kinds.now.entries.items)) (turn 2 32 (length pieces.now.items) self.old.rest.now (read_piece (entry_counts kinds.now.entries.items) self.old.rest.now)) result self.old self.new }
     {
         self.opens(2, pieces)?;
         let kind = self.operand(1, 0, kinds.entries.len())?;
@@ -79,7 +65,7 @@ impl<'a> Cursor<'a> {
         pieces: &mut ArrayVec<PieceEntry, 32>,
     ) -> Result<(), Reason>
         requires { pieces.old.items ≡ [] }
-        ensures read { Gives nothing (read_pieces (entry_counts kinds.now.entries.items) self.old.rest.now) result self.new.rest.now }
+        ensures read { Moves nothing (read_pieces (entry_counts kinds.now.entries.items) self.old.rest.now) result self.old self.new }
         ensures table { Holds (read_pieces (entry_counts kinds.now.entries.items) self.old.rest.now) (λ ps. pieces.new.items ≡ map (piece_entry (entry_counts kinds.now.entries.items)) ps) }
     {
         while self.sees(0x04) {
@@ -91,19 +77,19 @@ impl<'a> Cursor<'a> {
 
     // The end of the level, and nothing after it.
     pub fn end(&mut self) -> Result<(), Reason>
-        ensures { Gives nothing (read_end self.old.rest.now) result self.new.rest.now }
+        ensures { Moves nothing (read_end self.old.rest.now) result self.old self.new }
     {
-        if self.rest.len() == 0 {
-            return Err(self.truncated());
-        }
-        if self.rest[0] != 0x06 {
-            return Err(Reason::NotCommand);
-        }
-        self.advance(1);
-        if self.rest.len() == 0 {
-            Ok(())
-        } else {
-            Err(Reason::NotCommand)
+        match self.rest {
+            [] => Err(self.truncated()),
+            [0x06, ..] => {
+                self.advance(1);
+                if self.rest.is_empty() {
+                    Ok(())
+                } else {
+                    Err(Reason::NotCommand)
+                }
+            }
+            _ => Err(Reason::NotCommand),
         }
     }
 }

@@ -1,9 +1,9 @@
 // The steps that all readers are made of.
-ghost use Rattle.std.specs.Prelude.{◌≡◌, ◌-◌, ◌<◌, ◌≤◌, ◌&&◌, [], length, drop, if◌then◌else◌, Some, None, Ok, Err, ◌==◌, nat_le, nat_lt};
+ghost use Rattle.std.specs.Prelude.{◌≡◌, ◌-◌, ◌<◌, ◌≤◌, ◌&&◌, [], length, drop, if◌then◌else◌, Ok, Err, ◌==◌, nat_le, nat_lt};
 ghost use Rattle.level.specs.declared.fault.OperandFault.TheVariants.{OutOfRange};
 ghost use Rattle.level.specs.declared.fault.Reason.TheVariants.{Truncated};
 ghost use Rattle.level.specs.Reading.{at};
-ghost use Rattle.level.specs.Readers.{Gives, nothing, opened};
+ghost use Rattle.level.specs.Readers.{Moves, nothing, opened};
 
 use crate::cursor::Cursor;
 use crate::fault::{OperandFault, Reason};
@@ -13,16 +13,17 @@ impl<'a> Cursor<'a> {
     // Past so many bytes.
     pub fn advance(&mut self, count: usize)
         requires { count ≤ length self.old.rest.now }
-        ensures { self.new.rest.now ≡ drop count self.old.rest.now }
+        ensures rest { self.new.rest.now ≡ drop count self.old.rest.now }
+        ensures stays { self.new.total ≡ self.old.total }
     {
-        let rest = self.rest;
-        self.rest = &rest[count..];
+        self.rest = &self.rest[count..];
     }
 
     // The bytes end too soon: what is named is their end.
     pub fn truncated(&mut self) -> Reason
         ensures answer { result ≡ Truncated }
         ensures rest { self.new.rest.now ≡ [] }
+        ensures stays { self.new.total ≡ self.old.total }
     {
         self.rest = &[];
         Reason::Truncated
@@ -33,14 +34,14 @@ impl<'a> Cursor<'a> {
         requires { 0 < command }
         ensures { result ≡ (at self.now.rest.now 0 == command) }
     {
-        self.rest.len() > 0 && self.rest[0] == command
+        matches!(self.rest, [next, ..] if *next == command)
     }
 
-    // The place of the next byte in a level of so many bytes.
-    pub fn place(&self, total: usize) -> usize
-        ensures { result ≡ total - length self.now.rest.now }
+    // The place of the next byte in the level.
+    pub fn place(&self) -> usize
+        ensures { result ≡ self.now.total - length self.now.rest.now }
     {
-        total.saturating_sub(self.rest.len())
+        self.total - self.rest.len()
     }
 
     // The operand so many bytes after the next command's, which must be from `least` and below `limit`.
@@ -49,7 +50,7 @@ impl<'a> Cursor<'a> {
         ensures { result ≡ (if nat_le least (at self.now.rest.now after) && nat_lt (at self.now.rest.now after) limit then Ok (at self.now.rest.now after) else Err OutOfRange) }
     {
         let value = self.rest[after];
-        if value as usize >= least && (value as usize) < limit {
+        if (least..limit).contains(&(value as usize)) {
             Ok(value)
         } else {
             Err(OperandFault::OutOfRange)
@@ -62,7 +63,7 @@ impl<'a> Cursor<'a> {
         size: usize,
         table: &ArrayVec<T, N>,
     ) -> Result<(), Reason>
-        ensures { Gives nothing (opened size N (length table.now.items) self.old.rest.now) result self.new.rest.now }
+        ensures { Moves nothing (opened size N (length table.now.items) self.old.rest.now) result self.old self.new }
     {
         if self.rest.len() < size {
             return Err(self.truncated());

@@ -4,13 +4,12 @@ ghost use Rattle.level.specs.declared.fault.OperandFault.TheVariants.{OutOfRange
 ghost use Rattle.level.specs.Entries.{transition_entry};
 ghost use Rattle.level.specs.Places.{in_kind, placed_at};
 ghost use Rattle.level.specs.Reading.{at, read_transition, read_transitions};
-ghost use Rattle.level.specs.Readers.{Gives, Holds, head_entry, nothing, read_head, turn};
-ghost use Rattle.level.specs.Sound.{most_transitions};
+ghost use Rattle.level.specs.Readers.{Holds, Moves, head_entry, nothing, read_head, turn};
 
 use crate::cursor::Cursor;
-use crate::entry::{Head, KindEntry, TransitionEntry};
+use crate::entry::TransitionEntry;
 use crate::fault::{OperandFault, Reason};
-use crate::tables::Signals;
+use crate::scope::Scope;
 use arrayvec::ArrayVec;
 
 impl<'a> Cursor<'a> {
@@ -21,19 +20,22 @@ impl<'a> Cursor<'a> {
         ensures none { stands ≡ false → result ≡ (if nat_le 255 (at self.now.rest.now after) && nat_lt (at self.now.rest.now after) 256 then Ok None else Err OutOfRange) }
     {
         if stands {
-            let number = self.operand(after, 0, numbers as usize)?;
-            Ok(Some(number))
+            self.operand(after, 0, numbers as usize).map(Some)
         } else {
-            self.operand(after, 0xFF, 0x100)?;
-            Ok(None)
+            self.operand(after, 0xFF, 0x100).map(|_| None)
         }
     }
 
-    // The operands of a transition, in a kind of this shape.
-    fn head(&mut self, shape: KindEntry, signals: &Signals) -> Result<Head, Reason>
+    // A transition by its operands. Its guard comes next; where its effect stands is not known before the guard is read.
+    fn head(&mut self, scope: &Scope<'_>) -> Result<TransitionEntry, Reason>
         requires { 6 ≤ length self.old.rest.now }
-        ensures { Gives head_entry (read_head signals.now.counts.items shape.numbers shape.states self.old.rest.now) result self.new.rest.now }
+        ensures { Moves (head_entry scope.now.kind (self.old.total - length self.old.rest.now + 6)) (read_head scope.now.signals.now.counts.items scope.now.shape.numbers scope.now.shape.states self.old.rest.now) result self.old self.new }
     {
+        let &Scope {
+            signals,
+            kind,
+            shape,
+        } = scope;
         let source = self.operand(1, 0, shape.states as usize)?;
         let target = self.operand(2, 0, shape.states as usize)?;
         let signal = self.operand(3, 0, signals.counts.len() + 1)?;
@@ -41,67 +43,46 @@ impl<'a> Cursor<'a> {
         let first = self.receiver(4, parameters > 0, shape.numbers)?;
         let second = self.receiver(5, parameters > 1, shape.numbers)?;
         self.advance(6);
-        Ok(Head {
-            source,
-            target,
-            signal,
-            first,
-            second,
-        })
-    }
-
-    // One transition more than the table has, of kind `number`, in a level of `total` bytes.
-    fn transition(
-        &mut self,
-        total: usize,
-        number: u8,
-        shape: KindEntry,
-        signals: &Signals,
-        transitions: &ArrayVec<TransitionEntry, 128>,
-    ) -> Result<TransitionEntry, Reason>
-        requires { length self.old.rest.now ≤ total }
-        ensures { Gives (λ t. transition_entry (placed_at number shape.numbers (total - length self.old.rest.now) t)) (turn 6 128 (length transitions.now.items) self.old.rest.now (read_transition signals.now.counts.items shape.numbers shape.states self.old.rest.now)) result self.new.rest.now }
-    {
-        self.opens(6, transitions)?;
-        let head = self.head(shape, signals)?;
-        let guard = self.place(total);
-        self.expression(shape.numbers)?;
-        let effect = self.place(total);
-        self.effect(signals, shape.numbers)?;
-        let Head {
-            source,
-            target,
-            signal,
-            first,
-            second,
-        } = head;
+        let guard = self.place();
         Ok(TransitionEntry {
-            kind: number,
+            kind,
             source,
             target,
             signal,
             first,
             second,
             guard,
-            effect,
+            effect: guard,
         })
     }
 
-    // All transitions of kind `number`, after those in the table.
+    // One transition more than the table has.
+    fn transition(
+        &mut self,
+        scope: &Scope<'_>,
+        transitions: &ArrayVec<TransitionEntry, 128>,
+    ) -> Result<TransitionEntry, Reason>
+        ensures { Moves (λ t. transition_entry (placed_at scope.now.kind scope.now.shape.numbers (self.old.total - length self.old.rest.now) t)) (turn 6 128 (length transitions.now.items) self.old.rest.now (read_transition scope.now.signals.now.counts.items scope.now.shape.numbers scope.now.shape.states self.old.rest.now)) result self.old self.new }
+    {
+        self.opens(6, transitions)?;
+        let head = self.head(scope)?;
+        self.expression(scope.shape.numbers)?;
+        let effect = self.place();
+        self.effect(scope)?;
+        Ok(TransitionEntry { effect, ..head })
+    }
+
+    // All transitions of the kind, after those in the table.
     pub fn transitions(
         &mut self,
-        total: usize,
-        number: u8,
-        shape: KindEntry,
-        signals: &Signals,
+        scope: &Scope<'_>,
         transitions: &mut ArrayVec<TransitionEntry, 128>,
     ) -> Result<(), Reason>
-        requires short { length self.old.rest.now ≤ total }
-        ensures read { Gives nothing (read_transitions signals.now.counts.items shape.numbers shape.states (128 - length transitions.old.items) self.old.rest.now) result self.new.rest.now }
-        ensures table { Holds (read_transitions signals.now.counts.items shape.numbers shape.states (128 - length transitions.old.items) self.old.rest.now) (λ ts. transitions.new.items ≡ transitions.old.items ++ map transition_entry (in_kind number shape.numbers (total - length self.old.rest.now) ts)) }
+        ensures read { Moves nothing (read_transitions scope.now.signals.now.counts.items scope.now.shape.numbers scope.now.shape.states (128 - length transitions.old.items) self.old.rest.now) result self.old self.new }
+        ensures table { Holds (read_transitions scope.now.signals.now.counts.items scope.now.shape.numbers scope.now.shape.states (128 - length transitions.old.items) self.old.rest.now) (λ ts. transitions.new.items ≡ transitions.old.items ++ map transition_entry (in_kind scope.now.kind scope.now.shape.numbers (self.old.total - length self.old.rest.now) ts)) }
     {
         while self.sees(0x03) {
-            let entry = self.transition(total, number, shape, signals, transitions)?;
+            let entry = self.transition(scope, transitions)?;
             transitions.push(entry);
         }
         Ok(())

@@ -33,18 +33,14 @@ impl<'a> Level<'a> {
                 byte: 0,
             });
         }
-        let mut cursor = Cursor { rest: bytes };
+        let mut cursor = Cursor { rest: bytes, total };
         let mut index = Index::new();
-        match index.read(&mut cursor, total) {
-            Ok(()) => {
-                let pieces = index.pieces.len();
-                *self = Level { bytes, index };
-                Ok(pieces)
-            }
-            Err(reason) => {
-                let byte = cursor.place(total);
-                Err(LevelFault { reason, byte })
-            }
+        if let Err(reason) = index.read(&mut cursor) {
+            let byte = cursor.place();
+            return Err(LevelFault { reason, byte });
         }
+        let pieces = index.pieces.len();
+        *self = Level { bytes, index };
+        Ok(pieces)
     }
 }

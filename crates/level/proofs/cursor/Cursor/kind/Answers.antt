@@ -9,12 +9,20 @@ pub returns-in_err-transitions : goal.returns-in_err-transitions
 returns-in_err-transitions c =
     let p = err_from_is_err_and c.from_residual-in_err-transitions.result c.from_residual-in_err-transitions.ensures.1 in
     let e = p.1 ∙ ap Err p.2 in
-    let g = kind_broke c.args.signals.now.counts.items (length c.args.transitions.now.items) (length c.args.kinds.now.entries.items) c.args.self.now.rest.now c.in_ok-shape.shape _ c.in_ok-shape.ensures _ _ c.in_err-transitions.ensures.read _ e in
-    record { read = g; table = holds_none kind_entry _ _ _ _ (rw e at g) }
+    let g = kind_broke c.args.signals.now.counts.items (length c.args.transitions.now.items) (length c.args.kinds.now.entries.items) c.args.self.now.rest.now c.in_ok-shape.shape _ c.in_ok-shape.ensures.gives _ _ c.in_err-transitions.ensures.read.gives _ e in
+    record { read = record { gives = g; stays = c.in_err-transitions.ensures.read.stays ∙ c.in_ok-shape.ensures.stays }; table = holds_none kind_entry _ _ _ _ (rw e at g) }
 
 pub returns : goal.returns
 returns c =
+    let signals = c.args.signals.now.counts.items in
+    let used = length c.args.transitions.now.items in
+    let n = length c.args.kinds.now.entries.items in
+    let t = c.in_ok-transitions.ensures.table in
     record {
-      read = kind_made c.args.signals.now.counts.items (length c.args.transitions.now.items) (length c.args.kinds.now.entries.items) c.args.self.now.rest.now c.in_ok-shape.shape _ c.in_ok-shape.ensures _ c.in_ok-transitions.ensures.read;
-      table = kind_tabled c.args.signals.now.counts.items (length c.args.transitions.now.items) (length c.args.kinds.now.entries.items) c.args.self.now.rest.now c.in_ok-shape.shape _ c.in_ok-shape.ensures _ c.in_ok-transitions.ensures.read c.args.total c.requires _ c.len-number.ensures.value _ _ c.in_ok-transitions.ensures.table;
+      read = record {
+        gives = kind_made signals used n c.args.self.now.rest.now c.in_ok-shape.shape _ c.in_ok-shape.ensures.gives _ c.in_ok-transitions.ensures.read.gives;
+        stays = c.in_ok-transitions.ensures.read.stays ∙ c.in_ok-shape.ensures.stays;
+      };
+      table = kind_tabled signals used n c.args.self.now.rest.now c.in_ok-shape.shape _ c.in_ok-shape.ensures.gives _ c.in_ok-transitions.ensures.read.gives
+          c.args.self.now.total c.args.self.now.within _ c.len.ensures.value _ _ (rw c.in_ok-shape.ensures.stays at t);
     }

@@ -1,39 +1,46 @@
-use Rattle.std.proofs.Common.{sym, refl, arith, eqb-true}
+use Rattle.std.proofs.Common.{sym, refl, ◌∙◌, arith, eqb-true}
 use Rattle.std.proofs.lemmas.Result.{err_from_is_err_and}
 use Rattle.std.proofs.lemmas.Bool.Decides.{nat_tests}
 use Rattle.level.specs.Readers.{nothing}
 use Rattle.level.proofs.Fills.{holds_none}
-use Rattle.level.proofs.Growing.{kinds_broke, kinds_again, kinds_fit, kinds_less, kinds_short, kinds_done}
+use Rattle.level.proofs.Growing.{kinds_broke, kinds_again, kinds_fit, kinds_less, kinds_done}
 use Rattle.level.proofs.Turns.{done}
 use Rattle.level.proofs.cursor.Cursor.kinds.Goals as goal
-
-pub kind-requires : goal.kind-requires
-kind-requires c = kinds_short c.args.signals.now.counts.items c.args.signals.now.few c.args.total c.args.self.now.rest.now c.requires.short
-    c.loop-self.kinds.entries.items c.loop-self.transitions.items c.loop-self.self.rest.now c.loop-self.invariant
 
 pub returns-in_err-shape : goal.returns-in_err-shape
 returns-in_err-shape c =
     let p = err_from_is_err_and c.from_residual.result c.from_residual.ensures.1 in
-    let g = kinds_broke c.args.signals.now.counts.items c.args.signals.now.few c.args.total c.args.self.now.rest.now c.requires.short
-    c.loop-self.kinds.entries.items c.loop-self.transitions.items c.loop-self.self.rest.now c.loop-self.invariant (eqb-true _ _ (sym c.loop-self-test.ensures)) _ _ c.in_err-shape.ensures.read in
-    record { read = rw (p.1, p.2) g; kinds = holds_none nothing _ _ _ _ g; transitions = holds_none nothing _ _ _ _ g }
+    let g = kinds_broke c.args.signals.now.counts.items c.args.signals.now.few c.args.self.now.total c.args.self.now.rest.now c.args.self.now.within
+    c.loop-self.kinds.entries.items c.loop-self.transitions.items c.loop-self.self.rest.now c.loop-self.invariant.0 (eqb-true _ _ (sym c.loop-self-test.ensures)) _ _ c.in_err-shape.ensures.read.gives in
+    record {
+      read = record { gives = rw (p.1, p.2) g; stays = c.in_err-shape.ensures.read.stays ∙ c.loop-self.invariant.1 };
+      kinds = holds_none nothing _ _ _ _ g;
+      transitions = holds_none nothing _ _ _ _ g;
+    }
 
 pub push-requires : goal.push-requires
 push-requires c =
-    let k = kinds_fit c.args.signals.now.counts.items c.args.signals.now.few c.args.total c.args.self.now.rest.now c.requires.short
-    c.loop-self.kinds.entries.items c.loop-self.transitions.items c.loop-self.self.rest.now c.loop-self.invariant (eqb-true _ _ (sym c.loop-self-test.ensures)) c.loop-self.self.octets _ _ c.in_ok-shape.ensures.read in
+    let k = kinds_fit c.args.signals.now.counts.items c.args.signals.now.few c.args.self.now.total c.args.self.now.rest.now c.args.self.now.within
+    c.loop-self.kinds.entries.items c.loop-self.transitions.items c.loop-self.self.rest.now c.loop-self.invariant.0 (eqb-true _ _ (sym c.loop-self-test.ensures)) c.loop-self.self.octets _ _ c.in_ok-shape.ensures.read.gives in
     record { room = k.0; small = k.1 }
 
 pub loop-self-smaller : goal.loop-self-smaller
-loop-self-smaller c = kinds_less c.args.signals.now.counts.items c.args.signals.now.few c.args.total c.args.self.now.rest.now c.requires.short
-    c.loop-self.kinds.entries.items c.loop-self.transitions.items c.loop-self.self.rest.now c.loop-self.invariant (eqb-true _ _ (sym c.loop-self-test.ensures)) c.loop-self.self.octets _ _ c.in_ok-shape.ensures.read
+loop-self-smaller c = kinds_less c.args.signals.now.counts.items c.args.signals.now.few c.args.self.now.total c.args.self.now.rest.now c.args.self.now.within
+    c.loop-self.kinds.entries.items c.loop-self.transitions.items c.loop-self.self.rest.now c.loop-self.invariant.0 (eqb-true _ _ (sym c.loop-self-test.ensures)) c.loop-self.self.octets _ _ c.in_ok-shape.ensures.read.gives
 
 pub loop-self-preserved : goal.loop-self-preserved
-loop-self-preserved c = kinds_again c.args.signals.now.counts.items c.args.signals.now.few c.args.total c.args.self.now.rest.now c.requires.short
-    c.loop-self.kinds.entries.items c.loop-self.transitions.items c.loop-self.self.rest.now c.loop-self.invariant (eqb-true _ _ (sym c.loop-self-test.ensures)) c.loop-self.self.octets _ _ c.in_ok-shape.ensures.read _ _ c.push.ensures c.in_ok-shape.ensures.table
+loop-self-preserved c =
+    let t = c.in_ok-shape.ensures.table in
+    let f = kinds_again c.args.signals.now.counts.items c.args.signals.now.few c.args.self.now.total c.args.self.now.rest.now c.args.self.now.within
+    c.loop-self.kinds.entries.items c.loop-self.transitions.items c.loop-self.self.rest.now c.loop-self.invariant.0 (eqb-true _ _ (sym c.loop-self-test.ensures)) c.loop-self.self.octets _ _ c.in_ok-shape.ensures.read.gives _ _ c.push.ensures (rw c.loop-self.invariant.1 at t) in
+    (f, c.in_ok-shape.ensures.read.stays ∙ c.loop-self.invariant.1)
 
 pub returns : goal.returns
 returns c =
-    let e = kinds_done c.args.signals.now.counts.items c.args.signals.now.few c.args.total c.args.self.now.rest.now c.requires.short
-    c.loop-self.kinds.entries.items c.loop-self.transitions.items c.loop-self.self.rest.now c.loop-self.invariant (λ b. let f = c.loop-self-test.ensures in grind (arith, nat_tests)) in
-    record { read = done nothing _ _ _ e _ _ refl refl; kinds = rw e c.loop-self.invariant.known.1; transitions = rw e c.loop-self.invariant.known.2 }
+    let e = kinds_done c.args.signals.now.counts.items c.args.signals.now.few c.args.self.now.total c.args.self.now.rest.now c.args.self.now.within
+    c.loop-self.kinds.entries.items c.loop-self.transitions.items c.loop-self.self.rest.now c.loop-self.invariant.0 (λ b. let f = c.loop-self-test.ensures in grind (arith, nat_tests)) in
+    record {
+      read = record { gives = done nothing _ _ _ e _ _ refl refl; stays = c.loop-self.invariant.1 };
+      kinds = rw e c.loop-self.invariant.0.known.1;
+      transitions = rw e c.loop-self.invariant.0.known.2;
+    }

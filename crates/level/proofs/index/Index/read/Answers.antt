@@ -1,17 +1,12 @@
-use Rattle.std.proofs.Common.{Err, ap, ◌∙◌}
+use Rattle.std.proofs.Common.{Err, ap, ◌∙◌, rules}
 use Rattle.std.proofs.lemmas.Result.{err_from_is_err_and}
 use Rattle.level.specs.Readers.{nothing}
 use Rattle.level.proofs.Fills.{holds_none}
-use Rattle.level.proofs.Indexing.{short, pieces_refused, sections_read, sections_indexed}
+use Rattle.level.proofs.Indexing.{pieces_refused, sections_read, sections_indexed}
 use Rattle.level.proofs.index.Index.read.Goals as goal
 
 pub kinds-requires : goal.kinds-requires
-kinds-requires c = record {
-  short = short c.args.cursor.now.rest.now c.args.cursor.now.octets c.args.total c.requires.whole
-      c.signals.new.signals.counts.items _ c.in_ok-signals.ensures.read c.in_ok-signals.ensures.table;
-  kinds = ap (λ x. x.kinds) c.requires.none;
-  transitions = ap (λ x. x.transitions) c.requires.none;
-}
+kinds-requires c = record { kinds = ap (λ x. x.kinds) c.requires.none; transitions = ap (λ x. x.transitions) c.requires.none }
 
 pub pieces-requires : goal.pieces-requires
 pieces-requires c = ap (λ x. x.pieces) c.requires.none
@@ -19,19 +14,25 @@ pieces-requires c = ap (λ x. x.pieces) c.requires.none
 pub returns-in_err-pieces : goal.returns-in_err-pieces
 returns-in_err-pieces c =
     let p = err_from_is_err_and c.from_residual-in_err-pieces.result c.from_residual-in_err-pieces.ensures.1 in
-    let g = pieces_refused c.args.cursor.now.rest.now c.args.cursor.now.octets c.args.total c.requires.whole
-    c.signals.new.signals.counts.items _ c.in_ok-signals.ensures.read c.in_ok-signals.ensures.table
-    c.kinds.new.kinds.entries.items c.kinds.new.transitions.items _ c.in_ok-kinds.ensures.read c.in_ok-kinds.ensures.kinds c.in_ok-kinds.ensures.transitions _ _ c.in_err-pieces.ensures.read _ (p.1 ∙ ap Err p.2) in
-    record { read = g; index = holds_none nothing _ _ _ _ (rw p.1 at g) }
+    let t = c.in_ok-kinds.ensures.transitions in
+    let g = pieces_refused c.args.cursor.now.rest.now c.args.cursor.now.octets c.args.cursor.now.total c.requires.whole
+    c.signals.new.signals.counts.items _ c.in_ok-signals.ensures.read.gives c.in_ok-signals.ensures.table
+    c.kinds.new.kinds.entries.items c.kinds.new.transitions.items _ c.in_ok-kinds.ensures.read.gives c.in_ok-kinds.ensures.kinds (rw c.in_ok-signals.ensures.read.stays at t) _ _ c.in_err-pieces.ensures.read.gives _ (p.1 ∙ ap Err p.2) in
+    record { read = record { gives = g; stays = search rules }; index = holds_none nothing _ _ _ _ (rw p.1 at g) }
 
 pub returns : goal.returns
-returns c = record {
-  read = sections_read c.args.cursor.now.rest.now c.args.cursor.now.octets c.args.total c.requires.whole
-      c.signals.new.signals.counts.items _ c.in_ok-signals.ensures.read c.in_ok-signals.ensures.table
-      c.kinds.new.kinds.entries.items c.kinds.new.transitions.items _ c.in_ok-kinds.ensures.read c.in_ok-kinds.ensures.kinds c.in_ok-kinds.ensures.transitions
-      c.pieces.new.pieces.items _ c.in_ok-pieces.ensures.read c.in_ok-pieces.ensures.table _ _ c.end.ensures;
-  index = sections_indexed c.args.cursor.now.rest.now c.args.cursor.now.octets c.args.total c.requires.whole
-      c.signals.new.signals.counts.items _ c.in_ok-signals.ensures.read c.in_ok-signals.ensures.table
-      c.kinds.new.kinds.entries.items c.kinds.new.transitions.items _ c.in_ok-kinds.ensures.read c.in_ok-kinds.ensures.kinds c.in_ok-kinds.ensures.transitions
-      c.pieces.new.pieces.items _ c.in_ok-pieces.ensures.read c.in_ok-pieces.ensures.table;
-}
+returns c =
+    let t = c.in_ok-kinds.ensures.transitions in
+    record {
+      read = record {
+        gives = sections_read c.args.cursor.now.rest.now c.args.cursor.now.octets c.args.cursor.now.total c.requires.whole
+            c.signals.new.signals.counts.items _ c.in_ok-signals.ensures.read.gives c.in_ok-signals.ensures.table
+            c.kinds.new.kinds.entries.items c.kinds.new.transitions.items _ c.in_ok-kinds.ensures.read.gives c.in_ok-kinds.ensures.kinds (rw c.in_ok-signals.ensures.read.stays at t)
+            c.pieces.new.pieces.items _ c.in_ok-pieces.ensures.read.gives c.in_ok-pieces.ensures.table _ _ c.end.ensures.gives;
+        stays = search rules;
+      };
+      index = sections_indexed c.args.cursor.now.rest.now c.args.cursor.now.octets c.args.cursor.now.total c.requires.whole
+          c.signals.new.signals.counts.items _ c.in_ok-signals.ensures.read.gives c.in_ok-signals.ensures.table
+          c.kinds.new.kinds.entries.items c.kinds.new.transitions.items _ c.in_ok-kinds.ensures.read.gives c.in_ok-kinds.ensures.kinds (rw c.in_ok-signals.ensures.read.stays at t)
+          c.pieces.new.pieces.items _ c.in_ok-pieces.ensures.read.gives c.in_ok-pieces.ensures.table;
+    }

@@ -11,12 +11,12 @@ returns-then-total-gt8192 c =
 
 pub invariant_of-self : goal.invariant_of-self
 invariant_of-self c =
-    let s = found c.args.bytes.now (omega arith) _ c.in-Ok.ensures.read (contents c.read.new.self) c.in-Ok.ensures.index in
+    let s = found c.args.bytes.now (omega arith) _ c.in_default.ensures.read.gives (contents c.read.new.self) c.in_default.ensures.index in
     record { octets = search rules; legible = legible _ _ s; indexed = ∣ indexed _ _ s ∣₁ }
 
-pub returns-in-Ok : goal.returns-in-Ok
-returns-in-Ok c =
-    let s = found c.args.bytes.now (omega arith) _ c.in-Ok.ensures.read (contents c.read.new.self) c.in-Ok.ensures.index in
+pub returns : goal.returns
+returns c =
+    let s = found c.args.bytes.now (omega arith) _ c.in_default.ensures.read.gives (contents c.read.new.self) c.in_default.ensures.index in
     record {
       answer = ap Ok (c.len-pieces.ensures.value ∙ pieces_counted _ _ s) ∙ sym (ap loaded s.reads);
       after = rw s.reads;
@@ -25,5 +25,6 @@ returns-in-Ok c =
 
 pub returns-in-Err : goal.returns-in-Err
 returns-in-Err c =
-    let k = refused c.args.bytes.now (omega arith) _ _ c.in-Err.ensures.read in
-    record { answer = rw (k, c.place-byte.ensures); after = rw k; law = level_law }
+    let k = refused c.args.bytes.now (omega arith) _ _ c.in-Err.ensures.read.gives in
+    let p = c.place-byte.ensures in
+    record { answer = rw (k, rw c.in-Err.ensures.read.stays at p); after = rw k; law = level_law }
