@@ -14,18 +14,17 @@ impl<'a> Cursor<'a> {
     {
         let numbers = scope.shape.numbers;
         let code = self.rest;
-        let left = code.len();
-        if left == 0 {
+        let [command, ..] = code else {
             return Err(self.truncated());
-        }
-        match code[0] {
-            0x20..=0x22 if left < 2 => Err(self.truncated()),
-            0x20 if code[1] >= numbers => Err(Reason::Operand(OperandFault::OutOfRange)),
+        };
+        match *command {
+            0x20..=0x22 if code.len() < 2 => Err(self.truncated()),
+            0x20 if code[1] >= numbers => Err(OperandFault::OutOfRange.into()),
             0x20 => {
                 self.advance(2);
                 self.expression(numbers)
             }
-            0x21 if code[1] >= 8 => Err(Reason::Operand(OperandFault::OutOfRange)),
+            0x21 if code[1] >= 8 => Err(OperandFault::OutOfRange.into()),
             0x21 => {
                 self.advance(2);
                 self.expression(numbers)?;
@@ -46,11 +45,10 @@ impl<'a> Cursor<'a> {
     pub fn statements(&mut self, left: u8, scope: &Scope<'_>) -> Result<(), Reason>
         ensures { Moves nothing (read_effect scope.now.signals.now.counts.items scope.now.shape.numbers left self.old.rest.now) result self.old self.new }
     {
-        let code = self.rest;
-        if code.len() == 0 {
+        let [command, ..] = self.rest else {
             return Err(self.truncated());
-        }
-        match code[0] {
+        };
+        match *command {
             0x00 => {
                 self.advance(1);
                 Ok(())

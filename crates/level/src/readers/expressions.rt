@@ -12,13 +12,12 @@ impl<'a> Cursor<'a> {
         ensures { Moves nothing (read_expr depth numbers self.old.rest.now) result self.old self.new }
     {
         let code = self.rest;
-        let left = code.len();
-        if left == 0 {
+        let [command, ..] = code else {
             return Err(self.truncated());
-        }
-        match code[0] {
+        };
+        match *command {
             0x10..=0x1D if depth == 0 => Err(Reason::TooDeep),
-            0x10 if left < 5 => Err(self.truncated()),
+            0x10 if code.len() < 5 => Err(self.truncated()),
             0x10 => {
                 self.advance(5);
                 Ok(())
@@ -27,14 +26,14 @@ impl<'a> Cursor<'a> {
                 self.advance(1);
                 Ok(())
             }
-            0x12 if left < 2 => Err(self.truncated()),
-            0x12 if code[1] >= numbers => Err(Reason::Operand(OperandFault::OutOfRange)),
+            0x12 if code.len() < 2 => Err(self.truncated()),
+            0x12 if code[1] >= numbers => Err(OperandFault::OutOfRange.into()),
             0x12 => {
                 self.advance(2);
                 Ok(())
             }
-            0x13 if left < 2 => Err(self.truncated()),
-            0x13 if code[1] >= 8 => Err(Reason::Operand(OperandFault::OutOfRange)),
+            0x13 if code.len() < 2 => Err(self.truncated()),
+            0x13 if code[1] >= 8 => Err(OperandFault::OutOfRange.into()),
             0x13 => {
                 self.advance(2);
                 self.nested(depth - 1, numbers)
