@@ -97,11 +97,6 @@ module _ (d n : ℕ) (bs : List ℕ) (deep : 0 < d) (some : 1 ≤ length bs) whe
   pub negation_is : at bs 0 ≡ 29 → read_expr d n bs ≡ then (read_expr (d - 1) n (drop 1 bs)) (λ e l. got (negation e) l)
   negation_is b = expr_at d n bs deep some 29 b
 
-pub exprs_more : (k n : ℕ) (bs : List ℕ) → 0 < k
-    → read_exprs k n bs ≡ then (read_expr deepest n bs) (λ e l. then (read_exprs (k - 1) n l) (λ es m. got (e ∷ es) m))
-exprs_more zero n bs h = absurd (omega arith)
-exprs_more (suc k) n bs h = let z : suc k - 1 ≡ k = omega arith in rw z
-
 -- statements and effects
 module _ (signals : List ℕ) (n : ℕ) (bs : List ℕ) where
   -- at a numeral `b` the order computes
@@ -109,9 +104,6 @@ module _ (signals : List ℕ) (n : ℕ) (bs : List ℕ) where
   stmt_at o b e = room_in 1 bs _ o ∙ rw e
 
   module _ (some : 1 ≤ length bs) (two : 2 ≤ length bs) (b : at bs 0 ≡ 34) where
-    pub send_over : length signals < at bs 1 → read_stmt signals n bs ≡ fault (Operand OutOfRange) bs
-    send_over u = stmt_at some 34 b ∙ (room_in 2 bs _ two ∙ operand_over 1 1 (length signals + 1) bs _ (omega arith))
-
     pub send_is : (p : ℕ) → 1 ≤ at bs 1 → at bs 1 ≤ length signals → parameters signals (at bs 1) ≡ p
         → read_stmt signals n bs ≡ then (read_expr deepest n (drop 2 bs)) (λ e l. then (read_exprs p n l) (λ es m. got (send (at bs 1) e es) m))
     send_is p l u e = stmt_at some 34 b ∙ (room_in 2 bs _ two ∙ (operand_in 1 1 (length signals + 1) bs _ l (omega arith) ∙ rw e))

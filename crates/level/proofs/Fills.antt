@@ -6,7 +6,6 @@ use Rattle.level.specs.declared.fault.Reason.{Reason}
 use Rattle.level.specs.declared.fault.Reason.TheVariants.{Truncated, Operand}
 use Rattle.level.specs.Reading.{Read, got, bad, fault, then, when, room, at, many}
 use Rattle.level.specs.Readers.{turn, Gives, Holds}
-use Rattle.level.proofs.Steps.{Reads}
 use Rattle.level.proofs.Turns.{went, hands_on}
 
 -- nothing holds of what was refused
@@ -82,9 +81,6 @@ module _ {A : Type 0} (c k most : ℕ) (item : List A → List ℕ → Read A) w
     pub known : P so_far
 
   module _ (P : List A → Type 0) where
-    pub begins : (bs : List ℕ) → P [] → Filled P (many c k item most [] bs) bs
-    begins bs p = record { so_far = []; reads = let z : most - 0 ≡ most = omega arith in rw z; known = p }
-
     module _ (whole : Read (List A)) (bs : List ℕ) (s : Filled P whole bs) where
       pub ends : (at bs 0 ≡ c → ⊥) → whole ≡ got s.so_far bs
       ends h = s.reads ∙ many_stop (most - length s.so_far) s.so_far bs h
@@ -113,11 +109,3 @@ turn_at f k most most' n n' bs X e q r l g = subst (λ m. Gives f (turn k m n' b
 -- the same limit, less those of others that stand before
 pub turn_less : {A : Type 0} (k most d n : ℕ) (bs : List ℕ) (X : Read A) → turn k most (d + n) bs X ≡ turn k (most - d) n bs X
 turn_less k most d n bs X = let e : ltb (d + n) most ≡ ltb n (most - d) = grind (arith, nat_tests) in rw e
-
--- an item takes bytes
-pub shorter : {A : Type 0} (S : A → Type 0) (s : A → List ℕ) (bs : List ℕ) (x : A) (l : List ℕ) (R : Read A) → R ≡ got x l → Reads S s bs R → 1 ≤ length (s x) → length l < length bs
-shorter S s bs x l R e r h =
-    let q = subst (Reads S s bs) e r in
-    let a = length-append (s x) l in
-    let b = ap length q.0 in
-    omega arith

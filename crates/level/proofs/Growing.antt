@@ -14,9 +14,9 @@ use Rattle.level.specs.Spelling.{all, transition, kind}
 use Rattle.level.specs.Syntax.{Transition, Kind}
 use Rattle.level.proofs.Effects.{transition_reads}
 use Rattle.level.proofs.Fills.{Filled, ends, breaks, again, turn_at, turn_less, turn_got, turn_in}
-use Rattle.level.proofs.Limits.{kinds_limit}
+use Rattle.level.proofs.Limits.{limits}
 use Rattle.level.proofs.Sections.{FittingKind, all_push, two_parameters, kind_reads}
-use Rattle.level.proofs.Steps.{Reads, spelled}
+use Rattle.level.proofs.Steps.{spelled}
 use Rattle.level.proofs.Turns.{went}
 
 pub in_kind_length : (k n i : ℕ) (ts : List Transition) → length (in_kind k n i ts) ≡ length ts
@@ -136,7 +136,7 @@ module _ (signals : List ℕ) (few : (k : ℕ) → get_or signals k 0 ≤ 2) (to
     in_transitions = ap length s.known.2 ∙ (length-map (in_kinds 0 (total - length bs₀) s.so_far) transition_entry ∙ in_kinds_length 0 (total - length bs₀) s.so_far)
 
     same_kind : one_kind ≡ turn 3 most_kinds (length s.so_far) bs (kind_item s.so_far bs)
-    same_kind = rw (in_rows, in_transitions, ← kinds_limit)
+    same_kind = rw (in_rows, in_transitions, ← limits.kinds)
 
     module _ (b : at bs 0 ≡ 0x02) where
       pub kinds_broke : (e : Reason) (l : List ℕ) → Gives kind_entry one_kind (Err e) l → Gives nothing all_kinds (Err e) l
@@ -162,14 +162,6 @@ module _ (signals : List ℕ) (few : (k : ℕ) → get_or signals k 0 ≤ 2) (to
               p ∙ rw (s.known.1, q) (sym (map-append kind_entry s.so_far (x ∷ []))),
               u ∙ (rw (s.known.2, z, w) (sym (ap (map transition_entry) (in_kinds_push 0 i s.so_far x) ∙ map-append transition_entry (in_kinds 0 i s.so_far) _))),
             ))
-
-        -- the table has a place for what was read, which has at most eight numbers
-        pub kinds_fit : (length rows < 16) × (v.numbers ≤ 8)
-        kinds_fit =
-            let w = went kind_entry one_kind v l g in
-            let t = turn_got 3 16 (length rows) bs (read_kind signals (length table) bs) w.0 l w.1 in
-            let r = subst (Reads (FittingKind signals (length table)) kind bs) t.2 (kind_reads signals few (length table) bs y t.0 b) in
-            (t.1, rw w.2 r.1.0.numbers)
 
         pub kinds_less : length l < length bs
         kinds_less =

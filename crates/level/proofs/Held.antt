@@ -15,7 +15,7 @@ use Rattle.level.specs.Reading.{tree_or_empty, read}
 use Rattle.level.specs.Sound.{Sound, most_transitions}
 use Rattle.level.specs.Spelling.{all, signal, level}
 use Rattle.level.specs.Syntax as syntax
-use Rattle.level.proofs.Limits.{pieces_limit, transitions_limit}
+use Rattle.level.proofs.Limits.{limits}
 use Rattle.level.proofs.Growing.{in_kinds_length}
 use Rattle.level.proofs.Whole.{faithful}
 
@@ -52,9 +52,9 @@ module _ (l : Level) where
   held_spelling = (faithful (code l) (meaning l) l.octets accepted_as).0
 
   pub few_pieces : length (meaning l).pieces ≤ 32
-  few_pieces = subst (λ n. length (meaning l).pieces ≤ n) (sym pieces_limit) held_sound.few_pieces
+  few_pieces = subst (λ n. length (meaning l).pieces ≤ n) (sym limits.pieces) held_sound.few_pieces
 
   pub few_transitions : length (placed (meaning l)) ≤ 128
   few_transitions =
       let e = in_kinds_length 0 (length (all signal (meaning l).signals)) (meaning l).kinds in
-      subst (λ n. length (placed (meaning l)) ≤ n) (sym transitions_limit) (subst (λ n. n ≤ most_transitions) (sym e) held_sound.few_transitions)
+      subst (λ n. length (placed (meaning l)) ≤ n) (sym limits.transitions) (subst (λ n. n ≤ most_transitions) (sym e) held_sound.few_transitions)

@@ -11,7 +11,7 @@ mod Turns
 pub mod Arms
 mod Fills
 mod Limits
-mod Heads
+mod Operands
 mod Transitions
 mod Growing
 mod OneKind

@@ -2,22 +2,13 @@
 use Rattle.std.proofs.Common.{◌≡◌, refl}
 use Rattle.level.specs.Sound.{most_signals, most_kinds, most_transitions, most_pieces, most_bytes}
 
-pub signals_limit : 32 ≡ most_signals
-unfolding most_signals
-signals_limit = refl
+pub record Limits : Type 0 where
+  pub signals : 32 ≡ most_signals
+  pub kinds : 16 ≡ most_kinds
+  pub transitions : 128 ≡ most_transitions
+  pub pieces : 32 ≡ most_pieces
+  pub bytes : 8192 ≡ most_bytes
 
-pub kinds_limit : 16 ≡ most_kinds
-unfolding most_kinds
-kinds_limit = refl
-
-pub transitions_limit : 128 ≡ most_transitions
-unfolding most_transitions
-transitions_limit = refl
-
-pub pieces_limit : 32 ≡ most_pieces
-unfolding most_pieces
-pieces_limit = refl
-
-pub bytes_limit : 8192 ≡ most_bytes
-unfolding most_bytes
-bytes_limit = refl
+pub limits : Limits
+unfolding most_signals most_kinds most_transitions most_pieces most_bytes
+limits = record { signals = refl; kinds = refl; transitions = refl; pieces = refl; bytes = refl }

@@ -10,7 +10,7 @@ use Rattle.level.specs.Reading.{Read, got, bad, read_sections, verdict, read, ac
 use Rattle.level.specs.Readers.{Gives, Holds, answered, remains, nothing}
 use Rattle.level.specs.Sound.{counts, most_bytes}
 use Rattle.level.specs.Syntax.{Level}
-use Rattle.level.proofs.Limits.{bytes_limit}
+use Rattle.level.proofs.Limits.{limits}
 use Rattle.level.proofs.Settled.{settled}
 use Rattle.level.proofs.Standing.{stands}
 use Rattle.level.proofs.Turns.{went}
@@ -21,12 +21,12 @@ level_law = record { faithful = faithful; complete = complete; stands = stands; 
 
 pub too_long : (bs : List ℕ) → 8192 < length bs → read bs ≡ Err (record { reason = TooLong; byte = 0 })
 too_long bs h =
-    let m = bytes_limit in
+    let m = limits.bytes in
     let z : length bs - length bs ≡ 0 = omega arith in
     rw (lt-leb (length bs) most_bytes (omega arith), z)
 
 in_bounds : (bs : List ℕ) → length bs ≤ 8192 → read bs ≡ verdict (length bs) (read_sections bs)
-in_bounds bs h = let m = bytes_limit in rw (le-leb (length bs) most_bytes (omega arith))
+in_bounds bs h = let m = limits.bytes in rw (le-leb (length bs) most_bytes (omega arith))
 
 pub refused : (bs : List ℕ) → length bs ≤ 8192 → (e : Reason) (l : List ℕ) → Gives nothing (read_sections bs) (Err e) l → read bs ≡ Err (record { reason = e; byte = length bs - length l })
 refused bs h e l g = in_bounds bs h ∙ by (read_sections bs) g.answer g.rest

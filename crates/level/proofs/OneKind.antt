@@ -9,7 +9,7 @@ use Rattle.level.specs.Reading.{Read, got, then, at, operand, read_transitions, 
 use Rattle.level.specs.Readers.{Gives, Holds, nothing, turn, read_shape}
 use Rattle.level.specs.Syntax.{Transition, Kind}
 use Rattle.level.proofs.Fills.{turn_got, turn_then}
-use Rattle.level.proofs.Limits.{transitions_limit}
+use Rattle.level.proofs.Limits.{limits}
 use Rattle.level.proofs.Transitions.{Drops, drops_operand, operand_then}
 use Rattle.level.proofs.Turns.{done, broke, goes_on}
 
@@ -25,7 +25,7 @@ module _ (signals : List ℕ) (used : ℕ) where
   body k l = then (its k l) (λ ts m. got (shaped k ts) m)
 
   kind_then : (bs : List ℕ) → read_kind signals used bs ≡ then (read_shape bs) body
-  kind_then bs = rw (← transitions_limit)
+  kind_then bs = rw (← limits.transitions)
       (ap (operand 1 0 9 bs) (operand_then 2 1 17 bs (got (record { numbers = at bs 1; states = at bs 2 }) (drop 3 bs)) body)
       ∙ operand_then 1 0 9 bs (operand 2 1 17 bs (got (record { numbers = at bs 1; states = at bs 2 }) (drop 3 bs))) body)
 

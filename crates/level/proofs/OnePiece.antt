@@ -7,15 +7,15 @@ use Rattle.level.specs.declared.fault.Reason.{Reason}
 use Rattle.level.specs.declared.fault.Reason.TheVariants.{Operand}
 use Rattle.level.specs.Entries.{kind_entry, piece_entry, starting}
 use Rattle.level.specs.Law.{Bytes}
-use Rattle.level.specs.Reading.{Read, got, then, at, read_starts, read_piece, read_pieces, read_end}
+use Rattle.level.specs.Reading.{Read, got, then, at, read_starts, read_piece, read_pieces}
 use Rattle.level.specs.Readers.{Gives, nothing, turn, opened}
 use Rattle.level.specs.Tables.{entry_counts}
 use Rattle.level.specs.Sound.{most_pieces, counts}
 use Rattle.level.specs.Spelling.{piece}
 use Rattle.level.specs.Syntax.{Kind, Start, Piece}
 use Rattle.level.proofs.Fills.{Filled, ends, breaks, again, turn_at, turn_got, turn_in}
-use Rattle.level.proofs.Heads.{Checked, value, passes, fails}
-use Rattle.level.proofs.Limits.{pieces_limit}
+use Rattle.level.proofs.Operands.{Checked, value, passes, fails}
+use Rattle.level.proofs.Limits.{limits}
 use Rattle.level.proofs.Sections.{ShapedPiece, shaped_reads}
 use Rattle.level.proofs.Steps.{spelled}
 use Rattle.level.proofs.Turns.{stops, done, went, broke, goes_on}
@@ -85,7 +85,7 @@ module _ (cs bs₀ : List ℕ) (table : List PieceEntry) (bs : List ℕ) where
 
   module _ (s : Filled 0x04 2 most_pieces item (Tabled table) whole bs) where
     beside : (r : Result PieceEntry Reason) (l : List ℕ) → Gives (piece_entry cs) one r l → Gives (piece_entry cs) (turn 2 most_pieces (length s.so_far) bs (read_piece cs bs)) r l
-    beside r l g = turn_at (piece_entry cs) 2 32 most_pieces (length table) (length s.so_far) bs _ pieces_limit (ap length s.known ∙ length-map s.so_far (piece_entry cs)) r l g
+    beside r l g = turn_at (piece_entry cs) 2 32 most_pieces (length table) (length s.so_far) bs _ limits.pieces (ap length s.known ∙ length-map s.so_far (piece_entry cs)) r l g
 
     module _ (b : at bs 0 ≡ 0x04) where
       pub pieces_broke : (e : Reason) (l : List ℕ) → Gives (piece_entry cs) one (Err e) l → Gives nothing whole (Err e) l
@@ -105,9 +105,3 @@ module _ (cs bs₀ : List ℕ) (table : List PieceEntry) (bs : List ℕ) where
 
     pub pieces_done : (at bs 0 ≡ 0x04 → ⊥) → whole ≡ got s.so_far bs
     pieces_done h = ends 0x04 2 most_pieces item (Tabled table) whole bs s h
-
--- the end is one byte
-pub end_is : (bs l : List ℕ) → (length bs ≡ 0 → ⊥) → at bs 0 ≡ 6 → l ≡ drop 1 bs → length l ≡ 0 → Gives nothing (read_end bs) (Ok tt) l
-end_is [] l h b e z = absurd (h refl)
-end_is (x ∷ []) l h b e z = done nothing _ (tt {0}) [] (rw b) (tt {0}) l refl e
-end_is (x ∷ (y ∷ bs)) l h b e z = absurd (let q = ap length e in omega arith)

@@ -1,6 +1,5 @@
 -- The loop over the starting numbers of a piece.
 use Rattle.std.proofs.Common.{◌≡◌, ℕ, ◌+◌, ◌<◌, ◌≤◌, List, [], ◌∷◌, ◌++◌, length, set, replicate, ℤ, pos, Ok, Err, sym, refl, ap, ◌∙◌, subst, arith, length-append, w32, to_z, of_z, lt-ltb}
-use Rattle.std.proofs.lemmas.List.{length-set}
 use Rattle.std.proofs.lemmas.Int.{to_z-of_z}
 use Rattle.level.specs.declared.fault.Reason.{Reason}
 use Rattle.level.specs.Entries.{laid, starting}
@@ -18,13 +17,6 @@ use Rattle.level.proofs.Turns.{went}
 laid_push : (row : List ℤ) (ss : List Start) (s : Start) → laid row (ss ++ (s ∷ [])) ≡ set (laid row ss) s.number s.value
 laid_push row [] s = refl
 laid_push row (x ∷ ss) s = laid_push (set row x.number x.value) ss s
-
-laid_length : (row : List ℤ) (ss : List Start) → length (laid row ss) ≡ length row
-laid_length row [] = refl
-laid_length row (s ∷ ss) = laid_length (set row s.number s.value) ss ∙ length-set row s.number s.value
-
-pub starting_length : (ss : List Start) → length (starting ss) ≡ 8
-starting_length ss = laid_length (replicate 8 (pos 0)) ss
 
 module _ (n : ℕ) (bs₀ : List ℕ) where
   abbrev most : ℕ
@@ -50,9 +42,6 @@ module _ (n : ℕ) (bs₀ : List ℕ) where
     same : one ≡ turn 6 most (length s.so_far) bs (read_start n bs)
     same = rw (lt-ltb (length s.so_far) most few)
 
-    pub row_length : length row ≡ 8
-    row_length = ap length s.known.1 ∙ starting_length s.so_far
-
     module _ (b : at bs 0 ≡ 0x05) where
       pub starts_broke : {D : Type 0} (g : List Start → D) (e : Reason) (l : List ℕ) → Gives start_pair one (Err e) l → Gives g whole (Err e) l
       starts_broke g e l h = breaks 0x05 6 most item (Laid row bs) whole bs s start_pair b g e l (subst (λ R. Gives start_pair R (Err e) l) same h)
@@ -67,9 +56,6 @@ module _ (n : ℕ) (bs₀ : List ℕ) where
         sound : SoundStart n read_as.0
         sound = (subst (Reads (SoundStart n) start bs) read_as.2 (start_reads n bs y read_as.1 b)).1
 
-        pub start_small : v.0 < n
-        start_small = rw read_as.3 sound.number
-
         -- a number of 32 bits is kept as its bits
         kept : to_z w32 (of_z w32 v.1) ≡ v.1
         kept = to_z-of_z w32 v.1 (rw read_as.3 sound.value)
@@ -79,11 +65,6 @@ module _ (n : ℕ) (bs₀ : List ℕ) where
           s.known.0 ∙ (ap (λ z. all start s.so_far ++ z) (spelled (SoundStart n) start bs _ (start_reads n bs y k b) x l e) ∙ sym (all_push start s.so_far x l)),
           rw (s.known.1, q) (sym (laid_push (replicate 8 (pos 0)) s.so_far x)),
         )))
-
-        pub starts_less : length l < length bs
-        starts_less =
-            let e = ap length (spelled (SoundStart n) start bs _ (start_reads n bs y read_as.1 b) read_as.0 l read_as.2) ∙ length-append (start read_as.0) l in
-            omega arith
 
     pub starts_done : (at bs 0 ≡ 0x05 → ⊥) → whole ≡ got s.so_far bs
     starts_done h = ends 0x05 6 most item (Laid row bs) whole bs s h

@@ -1,8 +1,7 @@
 -- One transition, as the code reads it: its operands, its guard, its effect.
-use Rattle.std.proofs.Common.{◌≡◌, ℕ, ◌+◌, ◌-◌, ◌<◌, ◌≤◌, Bool, true, false, ◌&&◌, ltb, leb, List, length, drop, Ok, Err, Result, sym, refl, ap, ◌∙◌, subst, arith, length-append, length-drop, lt-ltb}
+use Rattle.std.proofs.Common.{◌≡◌, ℕ, ◌+◌, ◌-◌, ◌<◌, ◌≤◌, Bool, true, false, ◌&&◌, ltb, leb, List, length, drop, Ok, sym, refl, ap, ◌∙◌, subst, arith, length-append, length-drop, lt-ltb}
 use Rattle.level.specs.declared.entry.TransitionEntry.{TransitionEntry}
 use Rattle.level.specs.declared.fault.OperandFault.TheVariants.{OutOfRange}
-use Rattle.level.specs.declared.fault.Reason.{Reason}
 use Rattle.level.specs.declared.fault.Reason.TheVariants.{Operand}
 use Rattle.level.specs.Entries.{transition_entry}
 use Rattle.level.specs.Law.{Bytes}
@@ -17,7 +16,7 @@ use Rattle.level.proofs.Expressions.{expr_reads}
 use Rattle.level.proofs.Fills.{turn_got}
 use Rattle.level.proofs.Fronts.{bytes_drop}
 use Rattle.level.proofs.Steps.{Reads}
-use Rattle.level.proofs.Turns.{done, went, broke, goes_on}
+use Rattle.level.proofs.Turns.{done, went, goes_on}
 
 -- checks before what is read first
 pub operand_then : {A B : Type 0} (k least limit : ℕ) (bs : List ℕ) (X : Read A) (K : A → List ℕ → Read B) → operand k least limit bs (then X K) ≡ then (operand k least limit bs X) K
@@ -93,9 +92,6 @@ module _ (signals : List ℕ) (n m total number N : ℕ) (bs l0 : List ℕ) (o :
   whole : W ≡ then (read_head signals n m l0) (code signals n)
   whole = room_in 6 bs _ there.0 ∙ (rw (lt-ltb N 128 there.1) (transition_then signals n m bs ∙ ap (λ z. then (read_head signals n m z) (code signals n)) there.2))
 
-  pub head_broke : (e : Reason) (l : List ℕ) → Gives (headed l0) (read_head signals n m l0) (Err e) l → (s : Result TransitionEntry Reason) → s ≡ Err e → Gives E W s l
-  head_broke e l h s q = broke W (read_head signals n m) (code signals n) l0 l0 whole refl (headed l0) E e l h s q
-
   module _ (h : TransitionEntry) (l1 : List ℕ) (g : Gives (headed l0) (read_head signals n m l0) (Ok h) l1) where
     head_is : (d : Head) × (W ≡ code signals n d l1) × (h ≡ headed l0 d) × (read_head signals n m l0 ≡ got d l1)
     head_is = goes_on W (read_head signals n m) (code signals n) l0 l0 whole refl (headed l0) h l1 g
@@ -104,9 +100,6 @@ module _ (signals : List ℕ) (n m total number N : ℕ) (bs l0 : List ℕ) (o :
     effects e l = then (read_effect signals n most_statements l) (λ cs r.
         got (record { source = head_is.0.source; target = head_is.0.target; signal = head_is.0.signal; receives = head_is.0.receives; guard = e; effect = cs }) r)
 
-    pub guard_broke : (e : Reason) (l : List ℕ) → Gives nothing (read_expr deepest n l1) (Err e) l → (s : Result TransitionEntry Reason) → s ≡ Err e → Gives E W s l
-    guard_broke e l x s q = broke W (read_expr deepest n) effects l1 l1 head_is.1 refl nothing E e l x s q
-
     -- the guard stands after six bytes
     guard_at : l1 ≡ drop 6 bs
     guard_at = subst (Drops 6 l0) head_is.3 (head_six signals n m l0) ∙ ap (drop 6) (sym there.2)
@@ -114,9 +107,6 @@ module _ (signals : List ℕ) (n m total number N : ℕ) (bs l0 : List ℕ) (o :
     module _ (l2 : List ℕ) (x : Gives nothing (read_expr deepest n l1) (Ok tt) l2) where
       guard_is : (e : Expr) × (W ≡ effects e l2) × (tt ≡ nothing e) × (read_expr deepest n l1 ≡ got e l2)
       guard_is = goes_on W (read_expr deepest n) effects l1 l1 head_is.1 refl nothing tt l2 x
-
-      pub effect_broke : (e : Reason) (l : List ℕ) → Gives nothing (read_effect signals n most_statements l2) (Err e) l → (s : Result TransitionEntry Reason) → s ≡ Err e → Gives E W s l
-      effect_broke e l x s q = broke W (read_effect signals n most_statements) _ l2 l2 guard_is.1 refl nothing E e l x s q
 
       guard_size : length l1 ≡ size guard_is.0 + length l2
       guard_size =

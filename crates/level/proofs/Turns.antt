@@ -12,10 +12,6 @@ module _ {A B : Type 0} (f : A → B) (R : Read A) where
   pub done : (a : A) (bs : List ℕ) → R ≡ got a bs → (b : B) (l : List ℕ) → b ≡ f a → l ≡ bs → Gives f R (Ok b) l
   done a bs e b l p q = record { answer = rw (e, p); rest = rw (e, q) }
 
-  -- what reading gives at an equal term
-  pub gives_at : (X : Read A) → R ≡ X → (r : Result B Reason) (l : List ℕ) → Gives f X r l → Gives f R r l
-  gives_at X e r l g = rw e g
-
   -- what was read where a reader answers
   pub went : (b : B) (l : List ℕ) → Gives f R (Ok b) l → (a : A) × (R ≡ got a l) × (b ≡ f a)
   went b l g = by R g.answer g.rest

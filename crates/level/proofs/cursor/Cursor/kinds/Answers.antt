@@ -3,7 +3,7 @@ use Rattle.std.proofs.lemmas.Result.{err_from_is_err_and}
 use Rattle.std.proofs.lemmas.Bool.Decides.{nat_tests}
 use Rattle.level.specs.Readers.{nothing}
 use Rattle.level.proofs.Fills.{holds_none}
-use Rattle.level.proofs.Growing.{kinds_broke, kinds_again, kinds_fit, kinds_less, kinds_done}
+use Rattle.level.proofs.Growing.{kinds_broke, kinds_again, kinds_less, kinds_done}
 use Rattle.level.proofs.Turns.{done}
 use Rattle.level.proofs.cursor.Cursor.kinds.Goals as goal
 
@@ -18,12 +18,6 @@ returns-in_err-shape c =
       transitions = holds_none nothing _ _ _ _ g;
     }
 
-pub push-requires : goal.push-requires
-push-requires c =
-    let k = kinds_fit c.args.signals.now.counts.items c.args.signals.now.few c.args.self.now.total c.args.self.now.rest.now c.args.self.now.within
-    c.loop-self.kinds.entries.items c.loop-self.transitions.items c.loop-self.self.rest.now c.loop-self.invariant.0 (eqb-true _ _ (sym c.loop-self-test.ensures)) c.loop-self.self.octets _ _ c.in_ok-shape.ensures.read.gives in
-    record { room = k.0; small = k.1 }
-
 pub loop-self-smaller : goal.loop-self-smaller
 loop-self-smaller c = kinds_less c.args.signals.now.counts.items c.args.signals.now.few c.args.self.now.total c.args.self.now.rest.now c.args.self.now.within
     c.loop-self.kinds.entries.items c.loop-self.transitions.items c.loop-self.self.rest.now c.loop-self.invariant.0 (eqb-true _ _ (sym c.loop-self-test.ensures)) c.loop-self.self.octets _ _ c.in_ok-shape.ensures.read.gives
@@ -35,12 +29,8 @@ loop-self-preserved c =
     c.loop-self.kinds.entries.items c.loop-self.transitions.items c.loop-self.self.rest.now c.loop-self.invariant.0 (eqb-true _ _ (sym c.loop-self-test.ensures)) c.loop-self.self.octets _ _ c.in_ok-shape.ensures.read.gives _ _ c.push.ensures (rw c.loop-self.invariant.1 at t) in
     (f, c.in_ok-shape.ensures.read.stays ∙ c.loop-self.invariant.1)
 
-pub returns : goal.returns
-returns c =
+pub returns-clause-read : goal.returns-clause-read
+returns-clause-read c =
     let e = kinds_done c.args.signals.now.counts.items c.args.signals.now.few c.args.self.now.total c.args.self.now.rest.now c.args.self.now.within
     c.loop-self.kinds.entries.items c.loop-self.transitions.items c.loop-self.self.rest.now c.loop-self.invariant.0 (λ b. let f = c.loop-self-test.ensures in grind (arith, nat_tests)) in
-    record {
-      read = record { gives = done nothing _ _ _ e _ _ refl refl; stays = c.loop-self.invariant.1 };
-      kinds = rw e c.loop-self.invariant.0.known.1;
-      transitions = rw e c.loop-self.invariant.0.known.2;
-    }
+    record { gives = done nothing _ _ _ e _ _ refl refl; stays = c.loop-self.invariant.1 }

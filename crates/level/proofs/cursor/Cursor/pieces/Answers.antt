@@ -23,7 +23,7 @@ loop-self-preserved c = (
   c.in_ok-entry.ensures.stays ∙ c.loop-self.invariant.1,
 )
 
-pub returns : goal.returns
-returns c =
+pub returns-clause-read : goal.returns-clause-read
+returns-clause-read c =
     let e = pieces_done (entry_counts c.args.kinds.now.entries.items) c.args.self.now.rest.now c.loop-self.pieces.items c.loop-self.self.rest.now c.loop-self.invariant.0 (λ b. let f = c.loop-self-test.ensures in grind (arith, nat_tests)) in
-    record { read = record { gives = done nothing _ _ _ e _ _ refl refl; stays = c.loop-self.invariant.1 }; table = rw e c.loop-self.invariant.0.known }
+    record { gives = done nothing _ _ _ e _ _ refl refl; stays = c.loop-self.invariant.1 }

@@ -5,12 +5,6 @@ use Rattle.level.proofs.Fills.{holds_none}
 use Rattle.level.proofs.Indexing.{pieces_refused, sections_read, sections_indexed}
 use Rattle.level.proofs.index.Index.read.Goals as goal
 
-pub kinds-requires : goal.kinds-requires
-kinds-requires c = record { kinds = ap (λ x. x.kinds) c.requires.none; transitions = ap (λ x. x.transitions) c.requires.none }
-
-pub pieces-requires : goal.pieces-requires
-pieces-requires c = ap (λ x. x.pieces) c.requires.none
-
 pub returns-in_err-pieces : goal.returns-in_err-pieces
 returns-in_err-pieces c =
     let p = err_from_is_err_and c.from_residual-in_err-pieces.result c.from_residual-in_err-pieces.ensures.1 in
