@@ -1,5 +1,5 @@
 -- Loops that fill a table: what was to be read is what was read so far and then what is read from here.
-use Rattle.std.proofs.Common.{◌≡◌, ℕ, zero, suc, ◌+◌, ◌-◌, ◌<◌, ◌≤◌, Bool, true, false, ltb, leb, List, [], ◌∷◌, ◌++◌, length, Ok, Err, Result, refl, ap, ◌∙◌, subst, arith, length-append, ltb-true, le-ltb, lt-ltb, eq-eqb, ne_eqb, le-leb, leb-true}
+use Rattle.std.proofs.Common.{◌≡◌, ℕ, zero, suc, ◌+◌, ◌-◌, ◌<◌, ◌≤◌, Bool, true, false, ltb, leb, List, [], ◌∷◌, ◌++◌, length, Ok, Err, Result, sym, refl, ap, ◌∙◌, subst, arith, length-append, ltb-true, le-ltb, lt-ltb, eq-eqb, ne_eqb, eqb, eqb-true, le-leb, leb-true}
 use Rattle.std.proofs.lemmas.Bool.Decides.{nat_tests}
 use Rattle.level.specs.declared.fault.OperandFault.TheVariants.{TooMany}
 use Rattle.level.specs.declared.fault.Reason.{Reason}
@@ -7,6 +7,13 @@ use Rattle.level.specs.declared.fault.Reason.TheVariants.{Truncated, Operand}
 use Rattle.level.specs.Reading.{Read, got, bad, fault, then, when, room, at, many}
 use Rattle.level.specs.Readers.{turn, Gives, Holds}
 use Rattle.level.proofs.Turns.{went, hands_on}
+
+-- what the test of such a loop says
+pub seen : {a b : ℕ} → true ≡ eqb a b → a ≡ b
+seen e = eqb-true _ _ (sym e)
+
+pub unseen : {a b : ℕ} → false ≡ eqb a b → a ≡ b → ⊥
+unseen e h = grind (arith, nat_tests)
 
 -- nothing holds of what was refused
 pub holds_none : {A B : Type 0} (f : A → B) (R : Read A) (e : Reason) (l : List ℕ) (P : A → Type 0) → Gives f R (Err e) l → Holds R P

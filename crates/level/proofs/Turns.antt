@@ -1,5 +1,7 @@
 -- How the promises of readers are put together, as the code calls them one after another.
 use Rattle.std.proofs.Common.{◌≡◌, ℕ, List, Ok, Err, Result, sym, refl, ap, ◌∙◌, subst, arith}
+use Rattle.std.specs.Result.{IsErrAnd}
+use Rattle.std.proofs.lemmas.Result.{err_from_is_err_and}
 use Rattle.level.specs.declared.fault.Reason.{Reason}
 use Rattle.level.specs.Reading.{Read, got, bad, fault, then}
 use Rattle.level.specs.Readers.{answered, remains, nothing, Gives}
@@ -52,6 +54,10 @@ module _ {A C : Type 0} (R : Read C) (F : List ℕ → Read A) (k : A → List �
   goes_on f b l h =
       let w = went f (F y) b l (subst (λ z. Gives f (F z) (Ok b) l) same h) in
       (w.0, begins ∙ ap (λ z. then z k) w.1, w.2, w.1)
+
+-- what `?` hands on is the refusal that was met
+pub handed : {B : Type 0} {e : Reason} (r : Result B Reason) → IsErrAnd r (λ x. x ≡ e) → r ≡ Err e
+handed r h = let p = err_from_is_err_and r h in p.1 ∙ ap Err p.2
 
 -- it was the last, and only whether it was read counts
 pub tail : {A C : Type 0} (R : Read C) (F : List ℕ → Read A) (G : A → C) (x y : List ℕ) → R ≡ then (F y) (λ a m. got (G a) m) → x ≡ y

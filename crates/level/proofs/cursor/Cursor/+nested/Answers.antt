@@ -1,9 +1,8 @@
-use Rattle.std.proofs.Common.{◌-◌, drop, Err, ap, ◌∙◌, arith, rules}
-use Rattle.std.proofs.lemmas.Result.{err_from_is_err_and}
+use Rattle.std.proofs.Common.{◌-◌, drop, arith, rules}
 use Rattle.level.specs.Reading.{read_expr}
 use Rattle.level.specs.Readers.{nothing}
 use Rattle.level.specs.Syntax.{binary}
-use Rattle.level.proofs.Turns.{stops, broke, tail, two}
+use Rattle.level.proofs.Turns.{stops, broke, tail, two, handed}
 use Rattle.level.proofs.Arms.{constant_short, other_short, other_is, binary_is, negation_is}
 use Rattle.level.proofs.cursor.Cursor.+nested.Goals as goal
 
@@ -24,9 +23,9 @@ returns-in-19-3 t c =
 
 pub returns-in_err-nested-in-20-to-28 : goal.returns-in_err-nested-in-20-to-28
 returns-in_err-nested-in-20-to-28 t c =
-    let p = err_from_is_err_and c.from_residual.result c.from_residual.ensures.1 in
+    let p = handed _ c.from_residual.ensures.1 in
     let b = binary_is c.args.depth c.args.numbers c.args.self.now.rest.now (omega arith) (omega arith) (omega (arith, c.in-20-to-28)) (omega (arith, c.in-20-to-28)) in
-    let g = broke _ (read_expr (c.args.depth - 1) c.args.numbers) _ _ (drop 1 c.args.self.now.rest.now) b.1 c.advance-in-20-to-28.ensures.rest nothing nothing _ _ c.in_err-nested-in-20-to-28.ensures.gives _ (p.1 ∙ ap Err p.2) in
+    let g = broke _ (read_expr (c.args.depth - 1) c.args.numbers) _ _ (drop 1 c.args.self.now.rest.now) b.1 c.advance-in-20-to-28.ensures.rest nothing nothing _ _ c.in_err-nested-in-20-to-28.ensures.gives _ p in
     record { gives = g; stays = search rules }
 
 pub returns-in_ok-nested-in-20-to-28 : goal.returns-in_ok-nested-in-20-to-28

@@ -1,8 +1,7 @@
-use Rattle.std.proofs.Common.{◌-◌, ◌∷◌, Err, refl, ap, ◌∙◌, arith}
-use Rattle.std.proofs.lemmas.Result.{err_from_is_err_and}
+use Rattle.std.proofs.Common.{◌-◌, ◌∷◌, refl, ◌∙◌, arith}
 use Rattle.level.specs.Reading.{read_stmt, read_effect}
 use Rattle.level.specs.Readers.{nothing}
-use Rattle.level.proofs.Turns.{broke, two}
+use Rattle.level.proofs.Turns.{broke, two, handed}
 use Rattle.level.proofs.Arms.{effect_more}
 use Rattle.level.proofs.cursor.Cursor.+statements.Goals as goal
 
@@ -10,9 +9,9 @@ pub returns-in_err-statement-in-32-to-34-2 : goal.returns-in_err-statement-in-32
 returns-in_err-statement-in-32-to-34-2 t c =
     let n = c.args.scope.now.shape.numbers in
     let signals = c.args.scope.now.signals.now.counts.items in
-    let p = err_from_is_err_and c.from_residual.result c.from_residual.ensures.1 in
+    let p = handed _ c.from_residual.ensures.1 in
     let g = broke _ (read_stmt signals n) _ _ c.args.self.now.rest.now (effect_more signals n c.args.self.now.rest.now c.args.left (omega arith) (omega arith) (omega arith) (omega arith)) refl
-    nothing nothing _ _ c.in_err-statement-in-32-to-34-2.ensures.gives _ (p.1 ∙ ap Err p.2) in
+    nothing nothing _ _ c.in_err-statement-in-32-to-34-2.ensures.gives _ p in
     record { gives = g; stays = c.in_err-statement-in-32-to-34-2.ensures.stays }
 
 pub returns-in_ok-statement-in-32-to-34-2 : goal.returns-in_ok-statement-in-32-to-34-2

@@ -1,36 +1,34 @@
-use Rattle.std.proofs.Common.{sym, refl, ◌∙◌, arith, eqb-true}
-use Rattle.std.proofs.lemmas.Result.{err_from_is_err_and}
-use Rattle.std.proofs.lemmas.Bool.Decides.{nat_tests}
+use Rattle.std.proofs.Common.{refl, ◌∙◌}
 use Rattle.level.specs.Readers.{nothing}
-use Rattle.level.proofs.Fills.{holds_none}
+use Rattle.level.proofs.Fills.{holds_none, seen, unseen}
 use Rattle.level.proofs.Growing.{kinds_broke, kinds_again, kinds_less, kinds_done}
-use Rattle.level.proofs.Turns.{done}
+use Rattle.level.proofs.Turns.{done, handed}
 use Rattle.level.proofs.cursor.Cursor.kinds.Goals as goal
 
 pub returns-in_err-shape : goal.returns-in_err-shape
 returns-in_err-shape c =
-    let p = err_from_is_err_and c.from_residual.result c.from_residual.ensures.1 in
+    let p = handed _ c.from_residual.ensures.1 in
     let g = kinds_broke c.args.signals.now.counts.items c.args.signals.now.few c.args.self.now.total c.args.self.now.rest.now c.args.self.now.within
-    c.loop-self.kinds.entries.items c.loop-self.transitions.items c.loop-self.self.rest.now c.loop-self.invariant.0 (eqb-true _ _ (sym c.loop-self-test.ensures)) _ _ c.in_err-shape.ensures.read.gives in
+    c.loop-self.kinds.entries.items c.loop-self.transitions.items c.loop-self.self.rest.now c.loop-self.invariant.0 (seen c.loop-self-test.ensures) _ _ c.in_err-shape.ensures.read.gives in
     record {
-      read = record { gives = rw (p.1, p.2) g; stays = c.in_err-shape.ensures.read.stays ∙ c.loop-self.invariant.1 };
+      read = record { gives = rw p g; stays = c.in_err-shape.ensures.read.stays ∙ c.loop-self.invariant.1 };
       kinds = holds_none nothing _ _ _ _ g;
       transitions = holds_none nothing _ _ _ _ g;
     }
 
 pub loop-self-smaller : goal.loop-self-smaller
 loop-self-smaller c = kinds_less c.args.signals.now.counts.items c.args.signals.now.few c.args.self.now.total c.args.self.now.rest.now c.args.self.now.within
-    c.loop-self.kinds.entries.items c.loop-self.transitions.items c.loop-self.self.rest.now c.loop-self.invariant.0 (eqb-true _ _ (sym c.loop-self-test.ensures)) c.loop-self.self.octets _ _ c.in_ok-shape.ensures.read.gives
+    c.loop-self.kinds.entries.items c.loop-self.transitions.items c.loop-self.self.rest.now c.loop-self.invariant.0 (seen c.loop-self-test.ensures) c.loop-self.self.octets _ _ c.in_ok-shape.ensures.read.gives
 
 pub loop-self-preserved : goal.loop-self-preserved
 loop-self-preserved c =
     let t = c.in_ok-shape.ensures.table in
     let f = kinds_again c.args.signals.now.counts.items c.args.signals.now.few c.args.self.now.total c.args.self.now.rest.now c.args.self.now.within
-    c.loop-self.kinds.entries.items c.loop-self.transitions.items c.loop-self.self.rest.now c.loop-self.invariant.0 (eqb-true _ _ (sym c.loop-self-test.ensures)) c.loop-self.self.octets _ _ c.in_ok-shape.ensures.read.gives _ _ c.push.ensures (rw c.loop-self.invariant.1 at t) in
+    c.loop-self.kinds.entries.items c.loop-self.transitions.items c.loop-self.self.rest.now c.loop-self.invariant.0 (seen c.loop-self-test.ensures) c.loop-self.self.octets _ _ c.in_ok-shape.ensures.read.gives _ _ c.push.ensures (rw c.loop-self.invariant.1 at t) in
     (f, c.in_ok-shape.ensures.read.stays ∙ c.loop-self.invariant.1)
 
 pub returns-clause-read : goal.returns-clause-read
 returns-clause-read c =
     let e = kinds_done c.args.signals.now.counts.items c.args.signals.now.few c.args.self.now.total c.args.self.now.rest.now c.args.self.now.within
-    c.loop-self.kinds.entries.items c.loop-self.transitions.items c.loop-self.self.rest.now c.loop-self.invariant.0 (λ b. let f = c.loop-self-test.ensures in grind (arith, nat_tests)) in
+    c.loop-self.kinds.entries.items c.loop-self.transitions.items c.loop-self.self.rest.now c.loop-self.invariant.0 (unseen c.loop-self-test.ensures) in
     record { gives = done nothing _ _ _ e _ _ refl refl; stays = c.loop-self.invariant.1 }

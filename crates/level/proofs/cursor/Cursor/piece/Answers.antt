@@ -1,23 +1,23 @@
-use Rattle.std.proofs.Common.{length, Err, sym, ap, ◌∙◌, rules}
-use Rattle.std.proofs.lemmas.Result.{err_from_is_err_and}
+use Rattle.std.proofs.Common.{refl, length, sym, ◌∙◌, rules}
 use Rattle.level.specs.Tables.{entry_counts}
 use Rattle.level.proofs.Listing.{counts_table}
 use Rattle.level.proofs.OnePiece.{kind_refused, starts_refused, piece_made}
+use Rattle.level.proofs.Turns.{handed}
 use Rattle.level.proofs.cursor.Cursor.piece.Goals as goal
 
 pub returns-in_err-kind : goal.returns-in_err-kind
 returns-in_err-kind c =
-    let p = err_from_is_err_and c.from_residual-in_err-kind.result c.from_residual-in_err-kind.ensures.1 in
+    let p = handed _ c.from_residual-in_err-kind.ensures.1 in
     let kinds = c.args.kinds.now.entries.items in
-    let g = kind_refused (entry_counts kinds) (length c.args.pieces.now.items) c.args.self.now.rest.now _ c.in_ok-opens.ensures.gives c.len.result (c.len.ensures.value ∙ sym (counts_table kinds)) _ c.in_err-kind.ensures _ p.2 in
-    record { gives = rw p.1 g; stays = c.in_ok-opens.ensures.stays }
+    let g = kind_refused (entry_counts kinds) (length c.args.pieces.now.items) c.args.self.now.rest.now _ c.in_ok-opens.ensures.gives c.len.result (c.len.ensures.value ∙ sym (counts_table kinds)) _ c.in_err-kind.ensures _ refl in
+    record { gives = rw p g; stays = c.in_ok-opens.ensures.stays }
 
 pub returns-in_err-starts : goal.returns-in_err-starts
 returns-in_err-starts c =
-    let p = err_from_is_err_and c.from_residual-in_err-starts.result c.from_residual-in_err-starts.ensures.1 in
+    let p = handed _ c.from_residual-in_err-starts.ensures.1 in
     let kinds = c.args.kinds.now.entries.items in
     let g = starts_refused (entry_counts kinds) (length c.args.pieces.now.items) c.args.self.now.rest.now _ c.in_ok-opens.ensures.gives c.len.result (c.len.ensures.value ∙ sym (counts_table kinds))
-    c.in_ok-kind.kind c.in_ok-kind.ensures c.numbers-numbers.result c.numbers-numbers.ensures.value _ c.advance.ensures.rest _ _ c.in_err-starts.ensures.gives _ (p.1 ∙ ap Err p.2) in
+    c.in_ok-kind.kind c.in_ok-kind.ensures c.numbers-numbers.result c.numbers-numbers.ensures.value _ c.advance.ensures.rest _ _ c.in_err-starts.ensures.gives _ p in
     record { gives = g; stays = search rules }
 
 pub returns : goal.returns

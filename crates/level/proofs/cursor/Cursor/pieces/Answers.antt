@@ -1,29 +1,27 @@
-use Rattle.std.proofs.Common.{sym, refl, ◌∙◌, arith, eqb-true}
-use Rattle.std.proofs.lemmas.Result.{err_from_is_err_and}
-use Rattle.std.proofs.lemmas.Bool.Decides.{nat_tests}
+use Rattle.std.proofs.Common.{refl, ◌∙◌}
 use Rattle.level.specs.Readers.{nothing}
 use Rattle.level.specs.Tables.{entry_counts}
-use Rattle.level.proofs.Fills.{holds_none}
+use Rattle.level.proofs.Fills.{holds_none, seen, unseen}
 use Rattle.level.proofs.OnePiece.{pieces_broke, pieces_again, pieces_less, pieces_done}
-use Rattle.level.proofs.Turns.{done}
+use Rattle.level.proofs.Turns.{done, handed}
 use Rattle.level.proofs.cursor.Cursor.pieces.Goals as goal
 
 pub returns-in_err-entry : goal.returns-in_err-entry
 returns-in_err-entry c =
-    let p = err_from_is_err_and c.from_residual.result c.from_residual.ensures.1 in
-    let g = pieces_broke (entry_counts c.args.kinds.now.entries.items) c.args.self.now.rest.now c.loop-self.pieces.items c.loop-self.self.rest.now c.loop-self.invariant.0 (eqb-true _ _ (sym c.loop-self-test.ensures)) _ _ c.in_err-entry.ensures.gives in
-    record { read = record { gives = rw (p.1, p.2) g; stays = c.in_err-entry.ensures.stays ∙ c.loop-self.invariant.1 }; table = holds_none nothing _ _ _ _ g }
+    let p = handed _ c.from_residual.ensures.1 in
+    let g = pieces_broke (entry_counts c.args.kinds.now.entries.items) c.args.self.now.rest.now c.loop-self.pieces.items c.loop-self.self.rest.now c.loop-self.invariant.0 (seen c.loop-self-test.ensures) _ _ c.in_err-entry.ensures.gives in
+    record { read = record { gives = rw p g; stays = c.in_err-entry.ensures.stays ∙ c.loop-self.invariant.1 }; table = holds_none nothing _ _ _ _ g }
 
 pub loop-self-smaller : goal.loop-self-smaller
-loop-self-smaller c = pieces_less (entry_counts c.args.kinds.now.entries.items) c.args.self.now.rest.now c.loop-self.pieces.items c.loop-self.self.rest.now c.loop-self.invariant.0 (eqb-true _ _ (sym c.loop-self-test.ensures)) _ _ c.in_ok-entry.ensures.gives c.loop-self.self.octets
+loop-self-smaller c = pieces_less (entry_counts c.args.kinds.now.entries.items) c.args.self.now.rest.now c.loop-self.pieces.items c.loop-self.self.rest.now c.loop-self.invariant.0 (seen c.loop-self-test.ensures) _ _ c.in_ok-entry.ensures.gives c.loop-self.self.octets
 
 pub loop-self-preserved : goal.loop-self-preserved
 loop-self-preserved c = (
-  pieces_again (entry_counts c.args.kinds.now.entries.items) c.args.self.now.rest.now c.loop-self.pieces.items c.loop-self.self.rest.now c.loop-self.invariant.0 (eqb-true _ _ (sym c.loop-self-test.ensures)) _ _ c.in_ok-entry.ensures.gives _ c.push.ensures.items,
+  pieces_again (entry_counts c.args.kinds.now.entries.items) c.args.self.now.rest.now c.loop-self.pieces.items c.loop-self.self.rest.now c.loop-self.invariant.0 (seen c.loop-self-test.ensures) _ _ c.in_ok-entry.ensures.gives _ c.push.ensures.items,
   c.in_ok-entry.ensures.stays ∙ c.loop-self.invariant.1,
 )
 
 pub returns-clause-read : goal.returns-clause-read
 returns-clause-read c =
-    let e = pieces_done (entry_counts c.args.kinds.now.entries.items) c.args.self.now.rest.now c.loop-self.pieces.items c.loop-self.self.rest.now c.loop-self.invariant.0 (λ b. let f = c.loop-self-test.ensures in grind (arith, nat_tests)) in
+    let e = pieces_done (entry_counts c.args.kinds.now.entries.items) c.args.self.now.rest.now c.loop-self.pieces.items c.loop-self.self.rest.now c.loop-self.invariant.0 (unseen c.loop-self-test.ensures) in
     record { gives = done nothing _ _ _ e _ _ refl refl; stays = c.loop-self.invariant.1 }

@@ -1,24 +1,23 @@
-use Rattle.std.proofs.Common.{sym, refl, ◌∙◌, arith, eqb-true}
-use Rattle.std.proofs.lemmas.Result.{err_from_is_err_and}
-use Rattle.std.proofs.lemmas.Bool.Decides.{nat_tests}
+use Rattle.std.proofs.Common.{refl, ◌∙◌}
 use Rattle.level.specs.Entries.{starting}
 use Rattle.level.proofs.Starting.{starts_broke, starts_again, starts_done}
-use Rattle.level.proofs.Turns.{done}
+use Rattle.level.proofs.Turns.{done, handed}
+use Rattle.level.proofs.Fills.{seen, unseen}
 use Rattle.level.proofs.cursor.Cursor.starts.Goals as goal
 
 pub returns-in_err-number : goal.returns-in_err-number
 returns-in_err-number c =
-    let p = err_from_is_err_and c.from_residual.result c.from_residual.ensures.1 in
-    let g = starts_broke c.args.numbers c.args.self.now.rest.now c.loop-self.row c.loop-self.self.rest.now c.loop-self.invariant.0 (eqb-true _ _ (sym c.loop-self-test.ensures)) starting _ _ c.in_err-number.ensures.gives in
-    record { gives = rw (p.1, p.2) g; stays = c.in_err-number.ensures.stays ∙ c.loop-self.invariant.1 }
+    let p = handed _ c.from_residual.ensures.1 in
+    let g = starts_broke c.args.numbers c.args.self.now.rest.now c.loop-self.row c.loop-self.self.rest.now c.loop-self.invariant.0 (seen c.loop-self-test.ensures) starting _ _ c.in_err-number.ensures.gives in
+    record { gives = rw p g; stays = c.in_err-number.ensures.stays ∙ c.loop-self.invariant.1 }
 
 pub loop-self-preserved : goal.loop-self-preserved
 loop-self-preserved c = (
-  starts_again c.args.numbers c.args.self.now.rest.now c.loop-self.row c.loop-self.self.rest.now c.loop-self.invariant.0 (eqb-true _ _ (sym c.loop-self-test.ensures)) c.loop-self.self.octets _ _ c.in_ok-number.ensures.gives,
+  starts_again c.args.numbers c.args.self.now.rest.now c.loop-self.row c.loop-self.self.rest.now c.loop-self.invariant.0 (seen c.loop-self-test.ensures) c.loop-self.self.octets _ _ c.in_ok-number.ensures.gives,
   c.in_ok-number.ensures.stays ∙ c.loop-self.invariant.1,
 )
 
 pub returns : goal.returns
 returns c =
-    let e = starts_done c.args.numbers c.args.self.now.rest.now c.loop-self.row c.loop-self.self.rest.now c.loop-self.invariant.0 (λ b. let f = c.loop-self-test.ensures in grind (arith, nat_tests)) in
+    let e = starts_done c.args.numbers c.args.self.now.rest.now c.loop-self.row c.loop-self.self.rest.now c.loop-self.invariant.0 (unseen c.loop-self-test.ensures) in
     record { gives = done starting _ _ _ e _ _ c.loop-self.invariant.0.known.1 refl; stays = c.loop-self.invariant.1 }

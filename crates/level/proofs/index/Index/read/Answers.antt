@@ -1,18 +1,18 @@
-use Rattle.std.proofs.Common.{Err, ap, ◌∙◌, rules}
-use Rattle.std.proofs.lemmas.Result.{err_from_is_err_and}
+use Rattle.std.proofs.Common.{rules}
 use Rattle.level.specs.Readers.{nothing}
 use Rattle.level.proofs.Fills.{holds_none}
 use Rattle.level.proofs.Indexing.{pieces_refused, sections_read, sections_indexed}
+use Rattle.level.proofs.Turns.{handed}
 use Rattle.level.proofs.index.Index.read.Goals as goal
 
 pub returns-in_err-pieces : goal.returns-in_err-pieces
 returns-in_err-pieces c =
-    let p = err_from_is_err_and c.from_residual-in_err-pieces.result c.from_residual-in_err-pieces.ensures.1 in
+    let p = handed _ c.from_residual-in_err-pieces.ensures.1 in
     let t = c.in_ok-kinds.ensures.transitions in
     let g = pieces_refused c.args.cursor.now.rest.now c.args.cursor.now.octets c.args.cursor.now.total c.requires.whole
     c.signals.new.signals.counts.items _ c.in_ok-signals.ensures.read.gives c.in_ok-signals.ensures.table
-    c.kinds.new.kinds.entries.items c.kinds.new.transitions.items _ c.in_ok-kinds.ensures.read.gives c.in_ok-kinds.ensures.kinds (rw c.in_ok-signals.ensures.read.stays at t) _ _ c.in_err-pieces.ensures.read.gives _ (p.1 ∙ ap Err p.2) in
-    record { read = record { gives = g; stays = search rules }; index = holds_none nothing _ _ _ _ (rw p.1 at g) }
+    c.kinds.new.kinds.entries.items c.kinds.new.transitions.items _ c.in_ok-kinds.ensures.read.gives c.in_ok-kinds.ensures.kinds (rw c.in_ok-signals.ensures.read.stays at t) _ _ c.in_err-pieces.ensures.read.gives _ p in
+    record { read = record { gives = g; stays = search rules }; index = holds_none nothing _ _ _ _ (rw p at g) }
 
 pub returns : goal.returns
 returns c =
