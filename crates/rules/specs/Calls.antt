@@ -8,6 +8,7 @@ use Rattle.rules.specs.declared.fault.MoveFault.{MoveFault}
 use Rattle.rules.specs.declared.fault.StrikeFault.TheVariants.{ShortTrail, NotMoves, AtMove}
 use Rattle.rules.specs.declared.fault.TapFault.{TapFault}
 use Rattle.rules.specs.declared.fault.TapFault.TheVariants.{NoPiece, NoSignal, Unused, TrayFull}
+use Rattle.rules.specs.declared.moves.Act.{Act}
 use Rattle.rules.specs.declared.moves.Act.TheVariants.{Transition, Discard}
 use Rattle.rules.specs.declared.moves.Move.{Move}
 use Rattle.rules.specs.declared.trail.Change.{Change}
@@ -51,8 +52,11 @@ abbrev pub refuse : CallFault → Game → After
 refuse f g = record { answer = refused f; game = g; changes = []; parcels = [] }
 
 -- in a transition's place FF is a discard
+abbrev pub act_of : ℕ → Act
+act_of t = cond (t == 0xFF) Discard (Transition t)
+
 abbrev pub move_of : ℕ → ℕ → Move
-move_of p t = record { piece = p; act = cond (t == 0xFF) Discard (Transition t) }
+move_of p t = record { piece = p; act = act_of t }
 
 -- a move is the byte 51, a piece and a transition
 abbrev pub moves_of : List ℕ → Option (List Move)
@@ -60,6 +64,13 @@ moves_of [] = Some []
 moves_of (c ∷ []) = None
 moves_of (c ∷ p ∷ []) = None
 moves_of (c ∷ p ∷ t ∷ bs) = cond (c == 0x51) (then (moves_of bs) (λ ms. Some (move_of p t ∷ ms))) None
+
+-- the moves at the front of some bytes; what follows them need be none
+abbrev pub front_moves : List ℕ → List Move
+front_moves [] = []
+front_moves (c ∷ []) = []
+front_moves (c ∷ p ∷ []) = []
+front_moves (c ∷ p ∷ t ∷ bs) = cond (c == 0x51) (move_of p t ∷ front_moves bs) []
 
 -- the numbers that a signal of n parameters does not use are 0
 abbrev pub fits : ℕ → Message → Bool

@@ -17,92 +17,66 @@ pub mod moves;
 pub mod trail;
 
 // The law over runs, for every level and every limit and rule of placing that shows a mail's facts.
-pub fn runs_end_alike() -> u8
+pub fn runs_end_alike()
     ensures { RunsEndAlike }
-{
-    0
-}
+{}
 
 // The same at one mail: every type that is a mail shows those facts.
-pub fn runs_end_alike_with<M: Mail>() -> u8
+pub fn runs_end_alike_with<M: Mail>()
     ensures { (L : Level) → LawIn (record { level = L; limit = M.Mail.LIMIT; place = M.Mail.place }) }
-{
-    0
-}
+{}
 
 // A move's deed depends only on what it reads.
-pub fn moves_depend_on_reads() -> u8
+pub fn moves_depend_on_reads()
     ensures { DependsOnReads }
-{
-    0
-}
+{}
 
 // A beat may be cut in two.
-pub fn beats_split() -> u8
+pub fn beats_split()
     ensures { BeatsSplit }
-{
-    0
-}
+{}
 
 // Neighbours in a beat may be exchanged unless the first goes before the second.
-pub fn neighbours_exchange() -> u8
+pub fn neighbours_exchange()
     ensures { NeighboursExchange }
-{
-    0
-}
+{}
 
 // No two moves of an accepted beat clash.
-pub fn no_moves_clash() -> u8
+pub fn no_moves_clash()
     ensures { NoneClash }
-{
-    0
-}
+{}
 
 // A move is refused for a clash only where it clashes with an earlier one.
-pub fn clashes_are_real() -> u8
+pub fn clashes_are_real()
     ensures { ClashesAreReal }
-{
-    0
-}
+{}
 
 // Fire is a step of the published semantics, with stumbles, limits and placing added.
-pub fn fire_is_a_step() -> u8
+pub fn fire_is_a_step()
     ensures { FireIsAStep }
-{
-    0
-}
+{}
 
 // A refused call changes nothing.
-pub fn refusals_change_nothing() -> u8
+pub fn refusals_change_nothing()
     ensures { RefusalsChangeNothing }
-{
-    0
-}
+{}
 
 // No tray grows over the limit.
-pub fn trays_stay_within() -> u8
+pub fn trays_stay_within()
     ensures { TraysStayWithin }
-{
-    0
-}
+{}
 
 // Full trails hold all that a call writes and sends.
-pub fn trails_suffice() -> u8
+pub fn trails_suffice()
     ensures { TrailsSuffice }
-{
-    0
-}
+{}
 
 // The worked cases hold.
-pub fn cases_hold() -> u8
+pub fn cases_hold()
     ensures { All cases }
-{
-    0
-}
+{}
 
 // The law is not empty: one run, altered, and its end.
-pub fn together_and_apart() -> u8
+pub fn together_and_apart()
     ensures { TogetherAndApart }
-{
-    0
-}
+{}

@@ -1,7 +1,10 @@
 // Moves.
 ghost use Rattle.std.specs.Prelude.{◌≡◌};
-ghost use Rattle.rules.specs.Calls.{move_of};
+ghost use Rattle.std.specs.Iterator.{YieldsFirst, item_count};
+ghost use Rattle.rules.specs.Calls.{act_of, front_moves, move_of};
 ghost use Rattle.rules.specs.Faults.{act_byte};
+
+use std::marker::Model;
 
 // What a piece does in a move: one of its transitions, by its number in the level, or a discard, which is implicit consumption: the
 // first message that waits for it is thrown away because no transition wants it.
@@ -18,12 +21,40 @@ pub struct Move {
     pub act: Act,
 }
 
-impl Act {
+// The moves at the front of the bytes, one after the other.
+#[derive(Drop)]
+pub struct Moves<'a> {
+    bytes: &'a [u8],
+}
+
+impl<'a> Model for Moves<'a> {
+    ghost use Rattle.std.specs.Prelude.{List};
+    ghost use Rattle.rules.specs.declared.moves.Move.{Move};
+
+    ghost Value = { List Move };
+
+    ghost use Rattle.rules.specs.Calls.{front_moves};
+
+    ghost view = { λ s. front_moves s.bytes.now };
+}
+
+impl From<u8> for Act {
+    ghost from_gives = { λ byte act. act ≡ act_of byte };
+
     // The byte in a transition's place: FF for a discard.
-    pub fn byte(self) -> u8
-        ensures { result ≡ act_byte self }
-    {
-        match self {
+    fn from(byte: u8) -> Act {
+        match byte {
+            0xFF => Act::Discard,
+            number => Act::Transition(number),
+        }
+    }
+}
+
+impl From<Act> for u8 {
+    ghost from_gives = { λ act byte. byte ≡ act_byte act };
+
+    fn from(act: Act) -> u8 {
+        match act {
             Act::Transition(number) => number,
             Act::Discard => 0xFF,
         }
@@ -35,16 +66,34 @@ impl Move {
     pub fn of_bytes(piece: u8, transition: u8) -> Move
         ensures { result ≡ move_of piece transition }
     {
-        if transition == 0xFF {
-            Move {
-                piece,
-                act: Act::Discard,
-            }
-        } else {
-            Move {
-                piece,
-                act: Act::Transition(transition),
-            }
+        Move {
+            piece,
+            act: transition.into(),
         }
+    }
+}
+
+impl<'a> Moves<'a> {
+    // Those of some bytes.
+    pub fn new(bytes: &'a [u8]) -> Self
+        ensures { result ≡ front_moves bytes.now }
+    {
+        Moves { bytes }
+    }
+}
+
+impl<'a> Iterator for Moves<'a> {
+    type Item = Move;
+
+    ghost next_gives = { YieldsFirst (λ left. left) };
+
+    ghost remaining = { item_count (λ left. left) };
+
+    fn next(&mut self) -> Option<Move> {
+        let [0x51, piece, transition, rest @ ..] = self.bytes else {
+            return None;
+        };
+        self.bytes = rest;
+        Some(Move::of_bytes(*piece, *transition))
     }
 }
