@@ -23,9 +23,8 @@ returns-in-19-3 t c =
 
 pub returns-in_err-nested-in-20-to-28 : goal.returns-in_err-nested-in-20-to-28
 returns-in_err-nested-in-20-to-28 t c =
-    let p = handed _ c.from_residual.ensures.1 in
     let b = binary_is c.args.depth c.args.numbers c.args.self.now.rest.now (omega arith) (omega arith) (omega (arith, c.in-20-to-28)) (omega (arith, c.in-20-to-28)) in
-    let g = broke _ (read_expr (c.args.depth - 1) c.args.numbers) _ _ (drop 1 c.args.self.now.rest.now) b.1 c.advance-in-20-to-28.ensures.rest nothing nothing _ _ c.in_err-nested-in-20-to-28.ensures.gives _ p in
+    let g = broke _ (read_expr (c.args.depth - 1) c.args.numbers) _ _ (drop 1 c.args.self.now.rest.now) b.1 c.advance-in-20-to-28.ensures.rest nothing nothing _ _ c.in_err-nested-in-20-to-28.ensures.gives _ (handed _ c.from_residual.ensures.1) in
     record { gives = g; stays = search rules }
 
 pub returns-in_ok-nested-in-20-to-28 : goal.returns-in_ok-nested-in-20-to-28

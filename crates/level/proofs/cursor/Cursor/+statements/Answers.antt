@@ -9,9 +9,8 @@ pub returns-in_err-statement-in-32-to-34-2 : goal.returns-in_err-statement-in-32
 returns-in_err-statement-in-32-to-34-2 t c =
     let n = c.args.scope.now.shape.numbers in
     let signals = c.args.scope.now.signals.now.counts.items in
-    let p = handed _ c.from_residual.ensures.1 in
     let g = broke _ (read_stmt signals n) _ _ c.args.self.now.rest.now (effect_more signals n c.args.self.now.rest.now c.args.left (omega arith) (omega arith) (omega arith) (omega arith)) refl
-    nothing nothing _ _ c.in_err-statement-in-32-to-34-2.ensures.gives _ p in
+    nothing nothing _ _ c.in_err-statement-in-32-to-34-2.ensures.gives _ (handed _ c.from_residual.ensures.1) in
     record { gives = g; stays = c.in_err-statement-in-32-to-34-2.ensures.stays }
 
 pub returns-in_ok-statement-in-32-to-34-2 : goal.returns-in_ok-statement-in-32-to-34-2
