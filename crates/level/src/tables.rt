@@ -1,12 +1,17 @@
-// The tables of a level whose entries have bounds of their own.
+// The tables of a level. Those whose entries have a bound of their own are types with that bound.
 mod kind_table;
 mod signal_table;
 
 ghost use Rattle.std.specs.Prelude.{ℕ, ◌≤◌, slice_index};
 ghost use Rattle.level.specs.Tables.{entry_counts};
 
-use crate::entry::KindEntry;
+use crate::entry::{KindEntry, PieceEntry, TransitionEntry};
 use arrayvec::ArrayVec;
+
+// The transitions of all kinds, in order.
+pub type Transitions = ArrayVec<TransitionEntry, 128>;
+
+pub type Pieces = ArrayVec<PieceEntry, 32>;
 
 // The signals, each by the number of its parameters: at most two.
 #[derive(Drop)]

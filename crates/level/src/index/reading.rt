@@ -8,8 +8,7 @@ ghost use Rattle.level.specs.Readers.{Holds, Moves, nothing};
 use super::Index;
 use crate::cursor::Cursor;
 use crate::fault::Reason;
-use crate::tables::{Kinds, Signals};
-use arrayvec::ArrayVec;
+use crate::tables::{Kinds, Pieces, Signals, Transitions};
 
 impl Index {
     // The index of a level of nothing.
@@ -19,8 +18,8 @@ impl Index {
         Index {
             signals: Signals::new(),
             kinds: Kinds::new(),
-            transitions: ArrayVec::new(),
-            pieces: ArrayVec::new(),
+            transitions: Transitions::new(),
+            pieces: Pieces::new(),
         }
     }
 

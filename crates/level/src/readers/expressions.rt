@@ -15,6 +15,8 @@ impl<'a> Cursor<'a> {
         let [command, ..] = code else {
             return Err(self.truncated());
         };
+        // Lengths and operands are tested by guards: under slice patterns of several lengths an arm is reached on two or three ways,
+        // and its proof goes by names that the checker makes up for them.
         match *command {
             0x10..=0x1D if depth == 0 => Err(Reason::TooDeep),
             0x10 if code.len() < 5 => Err(self.truncated()),

@@ -6,11 +6,10 @@ ghost use Rattle.level.specs.Reading.{read_kind, read_kinds};
 ghost use Rattle.level.specs.Readers.{Holds, Moves, nothing, read_shape, turn};
 
 use crate::cursor::Cursor;
-use crate::entry::{KindEntry, TransitionEntry};
+use crate::entry::KindEntry;
 use crate::fault::Reason;
 use crate::scope::Scope;
-use crate::tables::{Kinds, Signals};
-use arrayvec::ArrayVec;
+use crate::tables::{Kinds, Signals, Transitions};
 
 impl<'a> Cursor<'a> {
     // The operands of one kind more than the table has.
@@ -29,7 +28,7 @@ impl<'a> Cursor<'a> {
         &mut self,
         signals: &Signals,
         kinds: &Kinds,
-        transitions: &mut ArrayVec<TransitionEntry, 128>,
+        transitions: &mut Transitions,
     ) -> Result<KindEntry, Reason>
         ensures read { Moves kind_entry (turn 3 16 (length kinds.now.entries.items) self.old.rest.now (read_kind signals.now.counts.items (length transitions.old.items) self.old.rest.now)) result self.old self.new }
         ensures table { Holds (turn 3 16 (length kinds.now.entries.items) self.old.rest.now (read_kind signals.now.counts.items (length transitions.old.items) self.old.rest.now)) (λ k. transitions.new.items ≡ transitions.old.items ++ map transition_entry (in_kind (length kinds.now.entries.items) k.numbers (self.old.total - length self.old.rest.now + 3) k.transitions)) }
@@ -49,7 +48,7 @@ impl<'a> Cursor<'a> {
         &mut self,
         signals: &Signals,
         kinds: &mut Kinds,
-        transitions: &mut ArrayVec<TransitionEntry, 128>,
+        transitions: &mut Transitions,
     ) -> Result<(), Reason>
         requires kinds { kinds.old.entries.items ≡ [] }
         requires transitions { transitions.old.items ≡ [] }

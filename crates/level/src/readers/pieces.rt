@@ -8,8 +8,7 @@ ghost use Rattle.level.specs.Tables.{entry_counts};
 use crate::cursor::Cursor;
 use crate::entry::PieceEntry;
 use crate::fault::Reason;
-use crate::tables::Kinds;
-use arrayvec::ArrayVec;
+use crate::tables::{Kinds, Pieces};
 
 impl<'a> Cursor<'a> {
     // One starting number of a piece that has so many: its index, and the number of 32 bits.
@@ -39,11 +38,7 @@ impl<'a> Cursor<'a> {
     }
 
     // One piece more than the table has.
-    fn piece(
-        &mut self,
-        kinds: &Kinds,
-        pieces: &ArrayVec<PieceEntry, 32>,
-    ) -> Result<PieceEntry, Reason>
+    fn piece(&mut self, kinds: &Kinds, pieces: &Pieces) -> Result<PieceEntry, Reason>
         ensures { Moves (piece_entry (entry_counts kinds.now.entries.items)) (turn 2 32 (length pieces.now.items) self.old.rest.now (read_piece (entry_counts kinds.now.entries.items) self.old.rest.now)) result self.old self.new }
     {
         self.opens(2, pieces)?;
@@ -59,11 +54,7 @@ impl<'a> Cursor<'a> {
     }
 
     // All pieces, into an empty table.
-    pub fn pieces(
-        &mut self,
-        kinds: &Kinds,
-        pieces: &mut ArrayVec<PieceEntry, 32>,
-    ) -> Result<(), Reason>
+    pub fn pieces(&mut self, kinds: &Kinds, pieces: &mut Pieces) -> Result<(), Reason>
         requires { pieces.old.items ≡ [] }
         ensures read { Moves nothing (read_pieces (entry_counts kinds.now.entries.items) self.old.rest.now) result self.old self.new }
         ensures table { Holds (read_pieces (entry_counts kinds.now.entries.items) self.old.rest.now) (λ ps. pieces.new.items ≡ map (piece_entry (entry_counts kinds.now.entries.items)) ps) }

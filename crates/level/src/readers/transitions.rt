@@ -10,7 +10,7 @@ use crate::cursor::Cursor;
 use crate::entry::TransitionEntry;
 use crate::fault::{OperandFault, Reason};
 use crate::scope::Scope;
-use arrayvec::ArrayVec;
+use crate::tables::Transitions;
 
 impl<'a> Cursor<'a> {
     // The number into which a parameter is received, where one stands; else the place must hold FF.
@@ -60,7 +60,7 @@ impl<'a> Cursor<'a> {
     fn transition(
         &mut self,
         scope: &Scope<'_>,
-        transitions: &ArrayVec<TransitionEntry, 128>,
+        transitions: &Transitions,
     ) -> Result<TransitionEntry, Reason>
         ensures { Moves (λ t. transition_entry (placed_at scope.now.kind scope.now.shape.numbers (self.old.total - length self.old.rest.now) t)) (turn 6 128 (length transitions.now.items) self.old.rest.now (read_transition scope.now.signals.now.counts.items scope.now.shape.numbers scope.now.shape.states self.old.rest.now)) result self.old self.new }
     {
@@ -76,7 +76,7 @@ impl<'a> Cursor<'a> {
     pub fn transitions(
         &mut self,
         scope: &Scope<'_>,
-        transitions: &mut ArrayVec<TransitionEntry, 128>,
+        transitions: &mut Transitions,
     ) -> Result<(), Reason>
         ensures read { Moves nothing (read_transitions scope.now.signals.now.counts.items scope.now.shape.numbers scope.now.shape.states (128 - length transitions.old.items) self.old.rest.now) result self.old self.new }
         ensures table { Holds (read_transitions scope.now.signals.now.counts.items scope.now.shape.numbers scope.now.shape.states (128 - length transitions.old.items) self.old.rest.now) (λ ts. transitions.new.items ≡ transitions.old.items ++ map transition_entry (in_kind scope.now.kind scope.now.shape.numbers (self.old.total - length self.old.rest.now) ts)) }
