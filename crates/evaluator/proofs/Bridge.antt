@@ -23,8 +23,9 @@ use Rattle.rules.proofs.Trails.{Maybe, weight, weight_changes, weight_parcels, w
 use Rattle.evaluator.specs.Judging.{grown, checked, earlier_of}
 use Rattle.evaluator.specs.Listing.{noted}
 use Rattle.evaluator.specs.Lookup.{laid_on, last_change, parcels_to}
-use Rattle.evaluator.specs.Meeting.{Lists, Around, meet, meet_all, met, transiting}
+use Rattle.evaluator.specs.Meeting.{Around, meet, meet_all, met, transiting}
 use Rattle.evaluator.specs.Reckoning.{follow, valued}
+use Rattle.evaluator.specs.Trails.{Lists}
 use Rattle.evaluator.proofs.Following.{follow_follow}
 use Rattle.evaluator.proofs.Looking.{parcels_all}
 use Rattle.evaluator.proofs.Meeting.{reading_met}

@@ -2,25 +2,39 @@
 use Rattle.std.proofs.Common.{◌≡◌, ℕ, ◌+◌, ◌-◌, ◌<◌, ◌≤◌, true, List, ◌∷◌, length, get_or, drop, Ok, Err, Result, sym, refl, ap, ◌∙◌, subst, ⊎_elim, arith, length-drop}
 use Rattle.std.proofs.lemmas.List.{drop-drop}
 use Rattle.std.proofs.lemmas.Bool.{cases_lt}
-use Rattle.level.specs.Law.{Bytes}
-use Rattle.level.specs.Reading.{Read, got, bad, then, at, read_stmt, read_effect}
+use Rattle.level.specs.Levels as level
+use Rattle.level.specs.Reading.{Read, got, bad, then, at, read_effect}
 use Rattle.level.specs.Spelling.{statement}
 use Rattle.level.specs.Syntax.{Stmt}
 use Rattle.level.proofs.Arms.{effect_past, effect_none, effect_ends, effect_full, effect_more}
-use Rattle.level.proofs.Legible.{stmt_rest}
+use Rattle.level.proofs.Legible.{bytes_from, stmt_rest}
+use Rattle.mail.specs.Trays.{Trays}
 use Rattle.rules.specs.declared.fault.Why.{Why}
-use Rattle.evaluator.specs.Meeting.{Lists, Around, step, steps, step_at, steps_at}
+use Rattle.evaluator.specs.declared.trail.Trails.{Trails}
+use Rattle.evaluator.specs.declared.turn.Turn.{Turn}
+use Rattle.evaluator.specs.Meeting.{Around, around, step, steps, step_at, steps_at}
 use Rattle.evaluator.specs.Reckoning.{follow, legible}
+use Rattle.evaluator.specs.Standing.{effect_at, statement_at}
+use Rattle.evaluator.specs.Trails.{Lists, lists, places}
 use Rattle.evaluator.proofs.Reckoned.{not_bad}
 use Rattle.evaluator.proofs.Stated.{first}
 
 -- the statements of an effect, of which n may still come
-module _ (A : Around) (code : List ℕ) (bytes : (i : ℕ) → Bytes (drop i code)) (t : Lists) (n i : ℕ) where
+module _ {M : Type 0} (trays : M → Trays) (limit : ℕ) (turn : Turn M) (lent : Trails) (n i : ℕ) where
+  abbrev A : Around
+  A = around trays limit turn (places lent)
+
+  abbrev t : Lists
+  t = lists lent
+
+  abbrev code : List ℕ
+  code = level.code turn.level.now
+
   abbrev F : ℕ → ℕ → Read (List Stmt)
-  F k j = read_effect A.level.signals 8 k (drop j code)
+  F k j = effect_at turn.level.now k j
 
   abbrev P : ℕ → Read Stmt
-  P j = read_stmt A.level.signals 8 (drop j code)
+  P j = statement_at turn.level.now j
 
   module _ (h : legible (F n i) ≡ true) where
     a_byte : 1 ≤ length (drop i code)
@@ -30,7 +44,7 @@ module _ (A : Around) (code : List ℕ) (bytes : (i : ℕ) → Bytes (drop i cod
     effect_inside = let k = a_byte in let l = length-drop i code in omega arith
 
     lead : (b : ℕ) → get_or code i 0 ≡ b → at (drop i code) 0 ≡ b
-    lead b e = first A code bytes t i b e
+    lead b e = first trays limit turn lent i b e
 
     pub effect_end : get_or code i 0 ≡ 0 → Ok t ≡ steps_at A t i (F n i)
     effect_end e = sym (ap (steps_at A t i) (effect_ends A.level.signals 8 (drop i code) n a_byte (lead 0 e)))
@@ -75,7 +89,7 @@ module _ (A : Around) (code : List ℕ) (bytes : (i : ℕ) → Bytes (drop i cod
       head_reads = head_of (P i) legible_chain
 
       past : (c : Stmt) (l : List ℕ) → P i ≡ got c l → l ≡ drop (i + length (statement c)) code
-      past c l q = stmt_rest A.level.signals 8 (drop i code) (bytes i) c l q ∙ drop-drop (length (statement c)) i code
+      past c l q = stmt_rest A.level.signals 8 (drop i code) (bytes_from turn.level.now i) c l q ∙ drop-drop (length (statement c)) i code
 
       stepped : (r : Result Lists Why) (m : ℕ) (u : Lists) (j : ℕ) → ◌≡◌ {A = Result (Lists × ℕ) Why} (Ok (u, j)) (follow r (λ v. Ok (v, m))) → (Ok u ≡ r) × (j ≡ m)
       stepped (Ok v) m u j e = let q : ◌≡◌ {A = Lists × ℕ} (u, j) (v, m) = cc in (ap (λ (x : Lists × ℕ). Ok x.0) q, ap (λ (x : Lists × ℕ). x.1) q)

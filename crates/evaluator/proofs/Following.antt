@@ -15,6 +15,10 @@ pub follow_same : {A B F : Type 0} (r : Result A F) (j k : A → Result B F) →
 follow_same (Ok x) j k h = h x
 follow_same (Err f) j k h = refl
 
+pub follow_ok : {A F : Type 0} (r : Result A F) → follow r (λ x. Ok x) ≡ r
+follow_ok (Ok x) = refl
+follow_ok (Err f) = refl
+
 module _ {A B : Type 0} (E : List Change) (k : A → Trace B) where
   clear_onward : (es : List Event) (o : Result A Why) → clear_of E (onward es o k).events (onward es o k).out ≡ follow (clear_of E es o) (λ x. valued E (k x))
   clear_onward [] (Ok x) = refl

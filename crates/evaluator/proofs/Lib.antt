@@ -7,6 +7,7 @@ pub mod Following
 pub mod Reckoned
 pub mod Cutting
 pub mod Messages
+pub mod Keeping
 pub mod Meeting
 pub mod Stated
 pub mod Effected

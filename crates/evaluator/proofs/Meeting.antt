@@ -7,8 +7,9 @@ use Rattle.rules.specs.Game.{Game}
 use Rattle.rules.specs.Trace.{Own, Event, reads, writes, sends, Trace, onward, bind, evaluate, evaluate_all}
 use Rattle.rules.proofs.Trails.{weight, weight_evaluate, weight_evaluate_all}
 use Rattle.evaluator.specs.Lookup.{last_change}
-use Rattle.evaluator.specs.Meeting.{Lists, Around, meet, meet_all, met}
+use Rattle.evaluator.specs.Meeting.{Around, meet, meet_all, met}
 use Rattle.evaluator.specs.Reckoning.{follow, clear_of, valued}
+use Rattle.evaluator.specs.Trails.{Lists}
 use Rattle.evaluator.proofs.Following.{follow_follow, follow_same}
 
 module _ (A : Around) where

@@ -16,8 +16,9 @@ use Rattle.rules.specs.Game.{message}
 use Rattle.rules.specs.Names.{piece_named, cell_named}
 use Rattle.rules.specs.Trace.{Own, writes, Trace, halt, bind, needing, no_writes, over, write, post, receipts, receive, evaluate, evaluate_all, run, run_all, guarded}
 use Rattle.evaluator.specs.Lookup.{last_change, parcels_to}
-use Rattle.evaluator.specs.Meeting.{Lists, Around, meet, met, own_in, steps, receiving, guarding, transiting}
+use Rattle.evaluator.specs.Meeting.{Around, meet, met, own_in, steps, receiving, guarding, transiting}
 use Rattle.evaluator.specs.Reckoning.{follow, valued}
+use Rattle.evaluator.specs.Trails.{Lists}
 use Rattle.evaluator.proofs.Following.{follow_follow, follow_same}
 use Rattle.evaluator.proofs.Looking.{laid_snoc}
 use Rattle.evaluator.proofs.Meeting.{met_bind, value_met, values_met}

@@ -1,63 +1,73 @@
 -- What a statement does to the trails, by the command byte at its place.
-use Rattle.std.proofs.Common.{◌≡◌, ℕ, ◌+◌, ◌<◌, ◌≤◌, true, List, length, get_or, take, drop, ℤ, Some, None, Ok, Err, Option, Result, sym, refl, ap, ◌∙◌, subst, ⊎_elim, arith, length-append, length-drop}
+use Rattle.std.proofs.Common.{◌≡◌, ℕ, ◌+◌, ◌<◌, ◌≤◌, true, List, [], ◌∷◌, length, get_or, take, drop, ℤ, Some, None, Ok, Err, Option, Result, IsErrAnd, sym, refl, ap, ◌∙◌, subst, ⊎_elim, arith, length-append, length-drop}
 use Rattle.std.proofs.lemmas.List.{get_or-drop, drop-drop}
 use Rattle.std.proofs.lemmas.Bool.{cases_lt}
+use Rattle.std.proofs.lemmas.Result.{err_from_is_err_and}
 use Rattle.mail.specs.declared.message.Message.{Message}
+use Rattle.mail.specs.Trays.{Trays}
 use Rattle.level.specs.Law.{Bytes}
-use Rattle.level.specs.Reading.{Read, got, bad, then, at, known, order, read_expr, read_exprs, read_order, read_stmt}
+use Rattle.level.specs.Reading.{Read, got, bad, then, at, known, order, read_expr, read_exprs, read_order}
 use Rattle.level.specs.Sound.{deepest, parameters}
 use Rattle.level.specs.Spelling.{expression, size, all, statement}
 use Rattle.level.specs.Syntax.{Expr, Stmt, assign, store, send}
+use Rattle.level.specs.Levels as level
+use Rattle.level.proofs.Legible.{bytes_from}
 use Rattle.level.proofs.Arms.{room_in, room_out, operand_in, operand_over, operand_under, stmt_at, stmt_none}
 use Rattle.rules.specs.declared.fault.Cause.TheVariants.{Missing}
 use Rattle.rules.specs.declared.fault.Stumble.{Stumble}
 use Rattle.rules.specs.declared.fault.Why.{Why}
 use Rattle.rules.specs.declared.fault.Why.TheVariants.{Stumbles}
 use Rattle.rules.specs.declared.trail.Change.{Change}
-use Rattle.rules.specs.declared.trail.Parcel.{Parcel}
+use Rattle.evaluator.specs.declared.trail.Trails.{Trails}
+use Rattle.evaluator.specs.declared.turn.Turn.{Turn}
 use Rattle.rules.specs.Game.{message}
 use Rattle.rules.specs.Names.{piece_named, cell_named}
-use Rattle.rules.specs.Trace.{Own, over, Trace, bind, needing, write, post, evaluate_all}
-use Rattle.evaluator.specs.Meeting.{Lists, Around, write_to, send_to, met, own_in, step_at, message_at, there, with_lists, lists_or}
+use Rattle.rules.specs.Trace.{Own, Event, writes, sends, Trace, bind, needing, write, post, evaluate_all}
+use Rattle.evaluator.specs.Meeting.{Around, around, sight_of, meet, met, own_in, step_at, message_at, there, with_lists, lists_or}
 use Rattle.evaluator.specs.Reckoning.{Sight, follow, valued, legible, value_at}
+use Rattle.evaluator.specs.Standing.{expression_at, expressions_at, statement_at}
+use Rattle.evaluator.specs.Trails.{Lists, lists, places}
 use Rattle.evaluator.proofs.Following.{follow_follow, follow_same, halted, gone}
 use Rattle.evaluator.proofs.Meeting.{value_met, values_met}
 use Rattle.evaluator.proofs.Reckoned.{not_bad, V, after, ends}
 
-abbrev pub change : ℕ → ℕ → ℤ → Change
-change p a v = record { piece = p; number = a; value = v }
+module _ {M : Type 0} (trays : M → Trays) (limit : ℕ) (u : Turn M) (lent : Trails) where
+  abbrev pub A : Around
+  A = around trays limit u (places lent)
 
-abbrev pub parcel : ℕ → Message → Parcel
-parcel q m = record { piece = q; message = m }
+  abbrev t : Lists
+  t = lists lent
 
-module _ (A : Around) (code : List ℕ) (bytes : (i : ℕ) → Bytes (drop i code)) (t : Lists) where
+  abbrev code : List ℕ
+  code = level.code u.level.now
+
+  bytes : (i : ℕ) → Bytes (drop i code)
+  bytes = bytes_from u.level.now
+
   -- what the move sees
   abbrev pub S : Sight
-  S = record { level = A.level; code = code; board = A.board; earlier = take A.written t.changes; own = drop A.written t.changes; mover = A.mover }
+  S = sight_of u t.changes
 
   abbrev R : ℕ → Read Expr
-  R i = read_expr deepest 8 (drop i code)
+  R i = expression_at u.level.now deepest i
 
   abbrev Rs : ℕ → ℕ → Read (List Expr)
-  Rs s i = read_exprs (parameters A.level.signals s) 8 (drop i code)
+  Rs s i = expressions_at u.level.now s i
 
   abbrev E : List Change
   E = take A.written t.changes
 
   -- a change or a parcel entered, with the place after the statement
-  abbrev pub wrote : ℕ → Change → Result (Lists × ℕ) Why
-  wrote n c = follow (write_to A.written A.places.changes t.changes c) (λ cs. Ok (record { changes = cs; parcels = t.parcels }, n))
+  abbrev entered : ℕ → Event → Result (Lists × ℕ) Why
+  entered n e = follow (meet A t e) (λ u. Ok (u, n))
 
-  abbrev pub posted : ℕ → Parcel → Result (Lists × ℕ) Why
-  posted n c = follow (send_to A.left A.limit A.sent A.places.parcels t.parcels c) (λ ps. Ok (record { changes = t.changes; parcels = ps }, n))
-
-  abbrev pub stored : ℕ → ℕ → ℕ → ℤ → Option ℕ → Result (Lists × ℕ) Why
+  abbrev stored : ℕ → ℕ → ℕ → ℤ → Option ℕ → Result (Lists × ℕ) Why
   stored i a n v None = Err (Stumbles (record { cause = Missing; place = i }))
-  stored i a n v (Some q) = wrote n (change q a v)
+  stored i a n v (Some q) = entered n (writes q a v)
 
-  abbrev pub delivered : ℕ → ℕ → Message → Option ℕ → Result (Lists × ℕ) Why
+  abbrev delivered : ℕ → ℕ → Message → Option ℕ → Result (Lists × ℕ) Why
   delivered i n m None = Err (Stumbles (record { cause = Missing; place = i }))
-  delivered i n m (Some q) = posted n (parcel q m)
+  delivered i n m (Some q) = entered n (sends q m)
 
   abbrev with_place : {X : Type 0} → ℕ → Result (X × Lists) Why → Result (Lists × ℕ) Why
   with_place n r = follow (follow r (λ x. Ok x.1)) (λ u. Ok (u, n))
@@ -66,21 +76,13 @@ module _ (A : Around) (code : List ℕ) (bytes : (i : ℕ) → Bytes (drop i cod
   with_follow n (Ok x) k = refl
   with_follow n (Err w) k = refl
 
-  write_step : (n : ℕ) (o : Own) (p a : ℕ) (v : ℤ) → with_place n (met A t (write o p a v)) ≡ wrote n (change p a v)
-  write_step n o p a v = go (over o p a v) (write_to A.written A.places.changes t.changes (change p a v))
+  -- an event alone, with what is written after it
+  entering : (n : ℕ) (e : Event) (o : Own) → with_place n (met A t (record { events = e ∷ []; out = Ok o })) ≡ entered n e
+  entering n e o = go (meet A t e)
     where
-      go : (x : Own) (r : Result (List Change) Why) → with_place {X = Own} n (follow (follow (follow r (λ cs. Ok (record { changes = cs; parcels = t.parcels }))) (λ u. Ok u)) (λ u. Ok (x, u)))
-          ≡ follow r (λ cs. Ok (record { changes = cs; parcels = t.parcels }, n))
-      go x (Ok cs) = refl
-      go x (Err w) = refl
-
-  post_step : (n : ℕ) (o : Own) (q : ℕ) (m : Message) → with_place n (met A t (post o q m)) ≡ posted n (parcel q m)
-  post_step n o q m = go o (send_to A.left A.limit A.sent A.places.parcels t.parcels (parcel q m))
-    where
-      go : (x : Own) (r : Result (List Parcel) Why) → with_place {X = Own} n (follow (follow (follow r (λ ps. Ok (record { changes = t.changes; parcels = ps }))) (λ u. Ok u)) (λ u. Ok (x, u)))
-          ≡ follow r (λ ps. Ok (record { changes = t.changes; parcels = ps }, n))
-      go x (Ok ps) = refl
-      go x (Err w) = refl
+      go : (r : Result Lists Why) → with_place {X = Own} n (follow (follow r (λ u. Ok u)) (λ u. Ok (o, u))) ≡ follow r (λ u. Ok (u, n))
+      go (Ok u) = refl
+      go (Err w) = refl
 
   abbrev VV : ℕ → Expr → Trace ℤ
   VV i e = V S bytes i e
@@ -94,7 +96,7 @@ module _ (A : Around) (code : List ℕ) (bytes : (i : ℕ) → Bytes (drop i cod
     bs = drop i code
 
     abbrev Q : Read Stmt
-    Q = read_stmt A.level.signals 8 bs
+    Q = statement_at u.level.now i
 
     byte : (k : ℕ) → get_or code (i + k) 0 ≡ at bs k
     byte k = sym (get_or-drop i code k 0)
@@ -135,27 +137,27 @@ module _ (A : Around) (code : List ℕ) (bytes : (i : ℕ) → Bytes (drop i cod
         pub assign_reads : legible (R (i + 2)) ≡ true
         assign_reads = inside_of (R (i + 2)) (subst (λ x. legible x ≡ true) is h)
 
-        go : (r : Read Expr) → legible r ≡ true → step_at A t i (then r (λ e l. got (assign a e) l)) ≡ follow (value_at S (i + 2) r) (λ x. wrote x.1 (change A.mover a x.0))
+        go : (r : Read Expr) → legible r ≡ true → step_at A t i (then r (λ e l. got (assign a e) l)) ≡ follow (value_at S (i + 2) r) (λ x. entered x.1 (writes A.mover a x.0))
         go (got e l) k =
             let n : i + length (statement (assign a e)) ≡ i + 2 + size e = omega arith in
             ap (with_place (i + length (statement (assign a e)))) (value_met A t A.level A.board A.mover (own_in A t) (i + 2) e (λ v. write (own_in A t) A.mover a v))
             ∙ with_follow _ (valued E (VV (i + 2) e)) _
-            ∙ follow_same (valued E (VV (i + 2) e)) _ _ (λ v. write_step _ (own_in A t) A.mover a v ∙ ap (λ m. wrote m (change A.mover a v)) n)
-            ∙ placed (i + 2) e (λ x. wrote x.1 (change A.mover a x.0))
+            ∙ follow_same (valued E (VV (i + 2) e)) _ _ (λ v. entering _ (writes A.mover a v) _ ∙ ap (λ m. entered m (writes A.mover a v)) n)
+            ∙ placed (i + 2) e (λ x. entered x.1 (writes A.mover a x.0))
         go (bad f) k = absurd (let y : ◌≡◌ {A = ℕ} 0 1 = cc in omega arith)
 
-        pub assigned : step_at A t i Q ≡ follow (value_at S (i + 2) (R (i + 2))) (λ x. wrote x.1 (change A.mover a x.0))
+        pub assigned : step_at A t i Q ≡ follow (value_at S (i + 2) (R (i + 2))) (λ x. entered x.1 (writes A.mover a x.0))
         assigned = ap (step_at A t i) is ∙ go (R (i + 2)) assign_reads
 
         pub assign_halts : (w : Why) → Err w ≡ value_at S (i + 2) (R (i + 2)) → Err w ≡ step_at A t i Q
         assign_halts w e = halted _ _ _ assigned w e
 
         module _ (v : ℤ) (n : ℕ) (e : Ok (v, n) ≡ value_at S (i + 2) (R (i + 2))) where
-          pub assign_refused : (w : Why) → Err w ≡ write_to A.written A.places.changes t.changes (change A.mover a v) → Err w ≡ step_at A t i Q
+          pub assign_refused : (w : Why) → Err w ≡ meet A t (writes A.mover a v) → Err w ≡ step_at A t i Q
           assign_refused w f = halted _ _ _ (gone _ _ _ assigned (v, n) e) w f
 
-          pub assign_told : (cs : List Change) → Ok cs ≡ write_to A.written A.places.changes t.changes (change A.mover a v) → Ok (record { changes = cs; parcels = t.parcels }, n) ≡ step_at A t i Q
-          assign_told cs f = sym (gone _ _ _ (gone _ _ _ assigned (v, n) e) cs f)
+          pub assign_told : (s : Lists) → Ok s ≡ meet A t (writes A.mover a v) → Ok (s, n) ≡ step_at A t i Q
+          assign_told s f = sym (gone _ _ _ (gone _ _ _ assigned (v, n) e) s f)
 
       module _ (b0 : get_or code i 0 ≡ 0x21) where
         s1 : Q ≡ known bs (order 0x21) (read_order A.level.signals 8 bs)
@@ -205,7 +207,7 @@ module _ (A : Around) (code : List ℕ) (bytes : (i : ℕ) → Bytes (drop i cod
 
         named : (n : ℕ) (w : ℤ) (o : Option ℕ) → with_place n (met A t (needing Missing i o (λ q. write (own_in A t) q a w))) ≡ stored i a n w o
         named n w None = refl
-        named n w (Some q) = write_step n (own_in A t) q a w
+        named n w (Some q) = entering n (writes q a w) _
 
         rest : (e : Expr) (r : Read Expr) → R (i + 2 + size e) ≡ r → legible (then r (λ f m. got (store a e f) m)) ≡ true
             → step_at A t i (then r (λ f m. got (store a e f) m)) ≡ follow (valued E (VV (i + 2) e)) (λ v. then_value (v, i + 2 + size e))
@@ -251,11 +253,11 @@ module _ (A : Around) (code : List ℕ) (bytes : (i : ℕ) → Bytes (drop i cod
             store_misses k = sym (last None k)
 
             module _ (q : ℕ) (k : Some q ≡ cell_named A.level x a) where
-              pub store_refused : (w : Why) → Err w ≡ write_to A.written A.places.changes t.changes (change q a v) → Err w ≡ step_at A t i Q
+              pub store_refused : (w : Why) → Err w ≡ meet A t (writes q a v) → Err w ≡ step_at A t i Q
               store_refused w j = halted _ _ _ (last (Some q) k) w j
 
-              pub store_told : (cs : List Change) → Ok cs ≡ write_to A.written A.places.changes t.changes (change q a v) → Ok (record { changes = cs; parcels = t.parcels }, n) ≡ step_at A t i Q
-              store_told cs j = sym (gone _ _ _ (last (Some q) k) cs j)
+              pub store_told : (s : Lists) → Ok s ≡ meet A t (writes q a v) → Ok (s, n) ≡ step_at A t i Q
+              store_told s j = sym (gone _ _ _ (last (Some q) k) s j)
 
       module _ (b0 : get_or code i 0 ≡ 0x22) where
         s2 : Q ≡ known bs (order 0x22) (read_order A.level.signals 8 bs)
@@ -308,7 +310,7 @@ module _ (A : Around) (code : List ℕ) (bytes : (i : ℕ) → Bytes (drop i cod
 
         to_piece : (n : ℕ) (m : Message) (o : Option ℕ) → with_place n (met A t (needing Missing i o (λ q. post (own_in A t) q m))) ≡ delivered i n m o
         to_piece n m None = refl
-        to_piece n m (Some q) = post_step n (own_in A t) q m
+        to_piece n m (Some q) = entering n (sends q m) _
 
         numbers : (e : Expr) (r : Read (List Expr)) → Rs a (i + 2 + size e) ≡ r → legible (then r (λ es m. got (send a e es) m)) ≡ true
             → step_at A t i (then r (λ es m. got (send a e es) m)) ≡ follow (valued E (VV (i + 2) e)) (λ v. then_message (v, i + 2 + size e))
@@ -334,11 +336,11 @@ module _ (A : Around) (code : List ℕ) (bytes : (i : ℕ) → Bytes (drop i cod
             numbers e (read_exprs (parameters A.level.signals a) 8 l) (ap (read_exprs (parameters A.level.signals a) 8) (sym r)) k ∙ placed (i + 2) e then_message
         with_numbers (bad f) q k = absurd (let y : ◌≡◌ {A = ℕ} 0 1 = cc in omega arith)
 
-        pub sends : step_at A t i Q ≡ follow (value_at S (i + 2) (R (i + 2))) then_message
-        sends = ap (step_at A t i) sends_are ∙ with_numbers (R (i + 2)) refl some_all
+        pub delivers : step_at A t i Q ≡ follow (value_at S (i + 2) (R (i + 2))) then_message
+        delivers = ap (step_at A t i) sends_are ∙ with_numbers (R (i + 2)) refl some_all
 
         pub send_halts : (w : Why) → Err w ≡ value_at S (i + 2) (R (i + 2)) → Err w ≡ step_at A t i Q
-        send_halts w e = halted _ _ _ sends w e
+        send_halts w e = halted _ _ _ delivers w e
 
         -- s is the signal, as the code comes by it
         module _ (s : ℕ) (of : a ≡ s) (x : ℤ) (m : ℕ) (e : Ok (x, m) ≡ value_at S (i + 2) (R (i + 2))) where
@@ -346,7 +348,7 @@ module _ (A : Around) (code : List ℕ) (bytes : (i : ℕ) → Bytes (drop i cod
           message_reads = subst (λ z. legible (Rs z m) ≡ true) of (send_numbers x m e)
 
           then_next : step_at A t i Q ≡ follow (message_at S s m (Rs s m)) (λ y. delivered i y.1 y.0 (piece_named A.level x))
-          then_next = gone _ _ _ sends (x, m) e ∙ ap (λ z. follow (message_at S z m (Rs z m)) (λ y. delivered i y.1 y.0 (piece_named A.level x))) of
+          then_next = gone _ _ _ delivers (x, m) e ∙ ap (λ z. follow (message_at S z m (Rs z m)) (λ y. delivered i y.1 y.0 (piece_named A.level x))) of
 
           pub send_stops : (w : Why) → Err w ≡ message_at S s m (Rs s m) → Err w ≡ step_at A t i Q
           send_stops w f = halted _ _ _ then_next w f
@@ -359,21 +361,24 @@ module _ (A : Around) (code : List ℕ) (bytes : (i : ℕ) → Bytes (drop i cod
             send_misses k = sym (at_last None k)
 
             module _ (q : ℕ) (k : Some q ≡ piece_named A.level x) where
-              pub send_refused : (w : Why) → Err w ≡ send_to A.left A.limit A.sent A.places.parcels t.parcels (parcel q v) → Err w ≡ step_at A t i Q
+              pub send_refused : (w : Why) → Err w ≡ meet A t (sends q v) → Err w ≡ step_at A t i Q
               send_refused w j = halted _ _ _ (at_last (Some q) k) w j
 
-              pub send_told : (ps : List Parcel) → Ok ps ≡ send_to A.left A.limit A.sent A.places.parcels t.parcels (parcel q v) → Ok (record { changes = t.changes; parcels = ps }, n) ≡ step_at A t i Q
-              send_told ps j = sym (gone _ _ _ (at_last (Some q) k) ps j)
+              pub send_told : (s : Lists) → Ok s ≡ meet A t (sends q v) → Ok (s, n) ≡ step_at A t i Q
+              send_told s j = sym (gone _ _ _ (at_last (Some q) k) s j)
 
       pub no_stmt : (32 ≤ get_or code i 0 → get_or code i 0 ≤ 34 → ⊥) → ⊥
       no_stmt n = not_bad Q _ _ (stmt_none A.level.signals 8 bs one (λ l u. n (rw (← first _ refl) l) (rw (← first _ refl) u))) h
 
--- a refused statement says nothing of the trails
-pub refused_with : {X : Type 0} (r : Result X Why) (u : Lists) (x : Result (Lists × X) Why) (w : Why) → r ≡ Err w → Err w ≡ x → with_lists r u ≡ x
-refused_with r u x w e f = ap (λ z. with_lists z u) e ∙ f
+-- a refusal that is passed on says nothing of the trails
+pub passed_on : {X : Type 0} (r : Result X Why) (w : Why) → IsErrAnd r (λ v. v ≡ w) → r ≡ Err w
+passed_on r w h = let p = err_from_is_err_and r h in p.1 ∙ ap Err p.2
 
-pub refused_or : {X : Type 0} (r : Result X Why) (u : Lists) (x : Result Lists Why) (w : Why) → r ≡ Err w → Err w ≡ x → lists_or r u ≡ x
-refused_or r u x w e f = ap (λ z. lists_or z u) e ∙ f
+pub refused_with : {X : Type 0} (r : Result X Why) (t : Lists) (x : Result (Lists × X) Why) (w : Why) → IsErrAnd r (λ v. v ≡ w) → Err w ≡ x → with_lists r t ≡ x
+refused_with r t x w h f = ap (λ z. with_lists z t) (passed_on r w h) ∙ f
+
+pub refused_or : {X : Type 0} (r : Result X Why) (t : Lists) (x : Result Lists Why) (w : Why) → IsErrAnd r (λ v. v ≡ w) → Err w ≡ x → lists_or r t ≡ x
+refused_or r t x w h f = ap (λ z. lists_or z t) (passed_on r w h) ∙ f
 
 -- a name that is there, and one that is missing
 pub found_named : (o : Option ℕ) (i q : ℕ) → Ok q ≡ there o i → Some q ≡ o

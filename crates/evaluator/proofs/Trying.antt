@@ -17,23 +17,25 @@ use Rattle.rules.specs.declared.fault.Why.TheVariants.{Guard}
 use Rattle.rules.specs.declared.trail.Change.{Change}
 use Rattle.rules.specs.Arithmetic.{holds}
 use Rattle.rules.specs.Game.{Game}
-use Rattle.rules.specs.Trace.{Own, no_writes, Receipt, receipts, laid_over, bind, halt, evaluate, wants, unwanted}
+use Rattle.rules.specs.Trace.{Own, writes, no_writes, Receipt, receipts, laid_over, bind, halt, evaluate, wants, unwanted}
 use Rattle.evaluator.specs.declared.turn.Turn.{Turn}
 use Rattle.evaluator.specs.Lookup.{last_change}
-use Rattle.evaluator.specs.Meeting.{write_to}
+use Rattle.evaluator.specs.Meeting.{Around, meet, receiving}
 use Rattle.evaluator.specs.Reckoning.{board_of, follow, valued, legible}
-use Rattle.evaluator.specs.Trying.{numbers_of, trial_of, entering, tried, tried_by, wanted, discarded, held_at, trial_sight}
-use Rattle.evaluator.proofs.Following.{follow_follow, follow_same, valued_bind, halted, gone}
+use Rattle.evaluator.specs.Trails.{Lists}
+use Rattle.evaluator.specs.Trying.{numbers_of, trial_of, tried, tried_by, wanted, discarded, held_at, trial_sight}
+use Rattle.evaluator.proofs.Following.{follow_follow, follow_same, follow_ok, valued_bind, halted, gone}
 
 -- some receipts after others
-pub entering_more : (mark n p : ℕ) (cs : List Change) (rs ss : List Receipt) → entering mark n p cs (rs ++ ss) ≡ follow (entering mark n p cs rs) (λ ds. entering mark n p ds ss)
-entering_more mark n p cs [] ss = refl
-entering_more mark n p cs (r ∷ rs) ss = go (write_to mark n cs (record { piece = p; number = r.into; value = r.value })) (λ ds. entering_more mark n p ds rs ss)
-  where
-    go : (x : Result (List Change) Why) → ((ds : List Change) → entering mark n p ds (rs ++ ss) ≡ follow (entering mark n p ds rs) (λ es. entering mark n p es ss))
-        → follow x (λ ds. entering mark n p ds (rs ++ ss)) ≡ follow (follow x (λ ds. entering mark n p ds rs)) (λ ds. entering mark n p ds ss)
-    go (Ok ds) f = f ds
-    go (Err w) f = refl
+module _ (A : Around) where
+  pub receiving_more : (t : Lists) (rs ss : List Receipt) → receiving A t (rs ++ ss) ≡ follow (receiving A t rs) (λ u. receiving A u ss)
+  receiving_more t [] ss = refl
+  receiving_more t (r ∷ rs) ss = follow_same (meet A t (writes A.mover r.into r.value)) _ _ (λ u. receiving_more u rs ss)
+      ∙ sym (follow_follow (meet A t (writes A.mover r.into r.value)) (λ u. receiving A u rs) (λ u. receiving A u ss))
+
+  -- a number received alone
+  pub receiving_one : (t : Lists) (r : Receipt) → receiving A t (r ∷ []) ≡ meet A t (writes A.mover r.into r.value)
+  receiving_one t r = follow_ok (meet A t (writes A.mover r.into r.value))
 
 -- the entry of a transition that there is, and of one that there is not
 module _ {A B : Type 0} (f : A → B) where
@@ -62,12 +64,12 @@ pub trial_is : (x : Placed) (m : Message) → trial_of (transition_entry x) (Som
 trial_is x m = sym (receipts_are x.transition.receives m)
 
 -- one number received, then the other
-module _ (mark n p : ℕ) (cs : List Change) (rs ss : List Receipt) where
-  pub enters_not : (w : Why) → Err w ≡ entering mark n p cs rs → Err w ≡ entering mark n p cs (rs ++ ss)
-  enters_not w e = halted _ _ _ (entering_more mark n p cs rs ss) w e
+module _ (A : Around) (t : Lists) (rs ss : List Receipt) where
+  pub receives_not : (w : Why) → Err w ≡ receiving A t rs → Err w ≡ receiving A t (rs ++ ss)
+  receives_not w e = halted _ _ _ (receiving_more A t rs ss) w e
 
-  pub enters_on : (ds : List Change) → Ok ds ≡ entering mark n p cs rs → (m : ℕ) → m ≡ n → entering mark m p ds ss ≡ entering mark n p cs (rs ++ ss)
-  enters_on ds e m q = ap (λ k. entering mark k p ds ss) q ∙ sym (gone _ _ _ (entering_more mark n p cs rs ss) ds e)
+  pub receives_on : (u : Lists) → Ok u ≡ receiving A t rs → receiving A u ss ≡ receiving A t (rs ++ ss)
+  receives_on u e = sym (gone _ _ _ (receiving_more A t rs ss) u e)
 
 -- a guard that stands at its place, tried with some own changes
 module _ {M : Type 0} (u : Turn M) (cs : List Change) (n : ℕ) (found : TransitionEntry) (h : Some found ≡ nth (map transition_entry (placed (meaning u.level.now))) n) where

@@ -6,7 +6,7 @@ use Rattle.rules.specs.Beat.{Earlier, changes_of, parcels_of}
 use Rattle.rules.specs.Checks.{Check, pass, fail}
 use Rattle.rules.specs.Trace.{Event}
 use Rattle.evaluator.specs.Lookup.{last_change, parcels_to}
-use Rattle.evaluator.specs.Meeting.{Lists}
+use Rattle.evaluator.specs.Trails.{Lists}
 
 -- all writes and sends entered
 abbrev pub grown : Lists → List Event → Lists

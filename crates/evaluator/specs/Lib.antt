@@ -3,6 +3,7 @@ pub mod Rows
 pub mod Lookup
 pub mod Commands
 pub mod Listing
+pub mod Standing
 pub mod Reckoning
 pub mod Meeting
 pub mod Judging

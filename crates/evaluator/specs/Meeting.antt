@@ -1,6 +1,6 @@
 -- What guards and effects do to the trails, met by what earlier moves left in them. This is scaffolding between the rules and the
 -- code: no public promise speaks of it.
-use Rattle.std.specs.Prelude.{◌≡◌, ℕ, ◌+◌, ◌-◌, cond, List, [], ◌∷◌, ◌++◌, length, take, drop, is_some, Some, None, Ok, Err, Option, Result, ◌==◌, nat_lt}
+use Rattle.std.specs.Prelude.{ℕ, ◌+◌, ◌-◌, cond, List, [], ◌∷◌, ◌++◌, length, take, drop, is_some, Some, None, Ok, Err, Option, Result, ◌==◌, nat_lt}
 use Rattle.mail.specs.declared.message.Message.{Message}
 use Rattle.mail.specs.Trays.{Trays}
 use Rattle.level.specs.Levels.{code, meaning}
@@ -18,16 +18,11 @@ use Rattle.rules.specs.Arithmetic.{holds}
 use Rattle.rules.specs.Calls.{Lent}
 use Rattle.rules.specs.Game.{Game, message}
 use Rattle.rules.specs.Trace.{Own, Event, reads, writes, sends, Trace, Receipt, receipts, evaluate, evaluate_all, run}
-use Rattle.evaluator.specs.declared.trail.Trail.{Trail}
 use Rattle.evaluator.specs.declared.turn.Turn.{Turn}
 use Rattle.evaluator.specs.Listing.{took_in}
 use Rattle.evaluator.specs.Lookup.{last_change, parcels_to}
 use Rattle.evaluator.specs.Reckoning.{Sight, board_of, follow, valued}
-use Rattle.evaluator.specs.Trails.{room}
-
--- the memory that is lent stays the same
-abbrev pub Kept : {T : Type 0} → Trail T → Trail T → Type 0
-Kept t u = (room u ≡ room t) × (u.places.ghost_name ≡ t.places.ghost_name)
+use Rattle.evaluator.specs.Trails.{Lists}
 
 -- one entry more, where there is a place
 abbrev pub pushed : {T : Type 0} → ℕ → List T → T → List T
@@ -57,16 +52,7 @@ sight_of t cs = record {
   mover = t.mover;
 }
 
--- an answer with what a trail holds after it: a refusal says nothing of the trail
-abbrev pub with_list : {A T : Type 0} → Result A Why → List T → Result (List T) Why
-with_list (Ok x) l = Ok l
-with_list (Err w) l = Err w
-
--- both trails as lists
-pub record Lists : Type 0 where
-  pub changes : List Change
-  pub parcels : List Parcel
-
+-- an answer with what the trails hold after it: a refusal says nothing of the trails
 abbrev pub with_lists : {A : Type 0} → Result A Why → Lists → Result (Lists × A) Why
 with_lists (Ok x) t = Ok (t, x)
 with_lists (Err w) t = Err w

@@ -13,7 +13,6 @@ use Rattle.rules.specs.Arithmetic.{holds}
 use Rattle.rules.specs.Game.{Game}
 use Rattle.rules.specs.Trace.{Own, Trace, no_writes, Receipt, receipts, laid_over, evaluate, wants}
 use Rattle.evaluator.specs.declared.turn.Turn.{Turn}
-use Rattle.evaluator.specs.Meeting.{write_to}
 use Rattle.evaluator.specs.Reckoning.{Sight, board_of, follow, valued, value_at}
 
 -- a number that is received, if one receives it
@@ -25,11 +24,6 @@ numbers_of (Some a) v = record { into = a; value = v } ∷ []
 abbrev pub trial_of : TransitionEntry → Option Message → List Receipt
 trial_of e None = []
 trial_of e (Some m) = numbers_of e.first m.first ++ numbers_of e.second m.second
-
--- entered among the changes, where the move's own begin at the mark
-abbrev pub entering : ℕ → ℕ → ℕ → List Change → List Receipt → Result (List Change) Why
-entering mark n p cs [] = Ok cs
-entering mark n p cs (r ∷ rs) = follow (write_to mark n cs (record { piece = p; number = r.into; value = r.value })) (λ ds. entering mark n p ds rs)
 
 module _ (L : Level) (b : Game) (p : ℕ) (E : List Change) where
   -- whether the guard of a transition holds

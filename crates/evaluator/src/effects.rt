@@ -1,16 +1,14 @@
 // Statements and effects.
-ghost use Rattle.std.specs.Prelude.{◌≡◌, ℕ, true, List, drop, slice_index};
+ghost use Rattle.std.specs.Prelude.{◌≡◌, true, slice_index};
 ghost use Rattle.level.specs.Levels.{code, meaning};
-ghost use Rattle.level.specs.Reading.{read_effect, read_exprs, read_stmt};
 ghost use Rattle.level.specs.Sound.{most_statements, parameters};
-ghost use Rattle.rules.specs.declared.trail.Change.{Change};
-ghost use Rattle.rules.specs.declared.trail.Parcel.{Parcel};
-ghost use Rattle.evaluator.specs.Meeting.{Kept, around, lists_or, message_at, sight_of, step_at, steps_at, there, with_lists};
+ghost use Rattle.evaluator.specs.Meeting.{around, lists_or, message_at, sight_of, step_at, steps_at, there, with_lists};
 ghost use Rattle.evaluator.specs.Reckoning.{legible};
-ghost use Rattle.evaluator.specs.Trails.{held, room};
+ghost use Rattle.evaluator.specs.Standing.{effect_at, expressions_at, statement_at};
+ghost use Rattle.evaluator.specs.Trails.{KeptBoth, held, lists, places};
 
 use crate::names::{cell_named, piece_named};
-use crate::trail::Trail;
+use crate::trail::Trails;
 use crate::turn::Turn;
 use level::Level;
 use mail::Mail;
@@ -43,14 +41,9 @@ fn there(named: Option<u8>, place: usize) -> Result<u8, Stumble>
 
 impl<'a, 'b, 'c, 'd, 'e, M: Mail> Turn<'a, 'b, 'c, 'd, 'e, M> {
     // The message of a signal whose numbers are the values of the expressions at a place, and the place after them.
-    fn message(
-        &self,
-        signal: u8,
-        at: usize,
-        changes: &Trail<Change>,
-    ) -> Result<(Message, usize), Why>
-        requires { legible (read_exprs (parameters (meaning self.now.level.now).signals signal) 8 (drop at (code self.now.level.now))) ≡ true }
-        ensures { result ≡ message_at (sight_of self.now (held changes.now)) signal at (read_exprs (parameters (meaning self.now.level.now).signals signal) 8 (drop at (code self.now.level.now))) }
+    fn message(&self, signal: u8, at: usize, trails: &Trails) -> Result<(Message, usize), Why>
+        requires { legible (expressions_at self.now.level.now signal at) ≡ true }
+        ensures { result ≡ message_at (sight_of self.now (held trails.now.changes)) signal at (expressions_at self.now.level.now signal at) }
     {
         match parameters(self.level, signal) {
             0 => Ok((
@@ -62,7 +55,7 @@ impl<'a, 'b, 'c, 'd, 'e, M: Mail> Turn<'a, 'b, 'c, 'd, 'e, M> {
                 at,
             )),
             1 => {
-                let (first, next) = self.expression(at, changes)?;
+                let (first, next) = self.expression(at, trails)?;
                 Ok((
                     Message {
                         signal,
@@ -73,8 +66,8 @@ impl<'a, 'b, 'c, 'd, 'e, M: Mail> Turn<'a, 'b, 'c, 'd, 'e, M> {
                 ))
             }
             _ => {
-                let (first, middle) = self.expression(at, changes)?;
-                let (second, next) = self.expression(middle, changes)?;
+                let (first, middle) = self.expression(at, trails)?;
+                let (second, next) = self.expression(middle, trails)?;
                 Ok((
                     Message {
                         signal,
@@ -88,35 +81,35 @@ impl<'a, 'b, 'c, 'd, 'e, M: Mail> Turn<'a, 'b, 'c, 'd, 'e, M> {
     }
 
     // An own number becomes a value. Like the two after it, this carries out the statement at a place, and answers the place after it.
-    fn assign(&self, at: usize, changes: &mut Trail<Change>) -> Result<usize, Why>
-        requires legible { legible (read_stmt (meaning self.now.level.now).signals 8 (drop at (code self.now.level.now))) ≡ true }
+    fn assign(&self, at: usize, trails: &mut Trails) -> Result<usize, Why>
+        requires legible { legible (statement_at self.now.level.now at) ≡ true }
         requires byte { slice_index (code self.now.level.now) at ≡ 0x20 }
-        ensures lists { (ps : List Parcel) (n : ℕ) → with_lists result (record { changes = held changes.new; parcels = ps }) ≡ step_at (around M.Mail.trays M.Mail.LIMIT self.now (record { changes = room changes.old; parcels = n })) (record { changes = held changes.old; parcels = ps }) at (read_stmt (meaning self.now.level.now).signals 8 (drop at (code self.now.level.now))) }
-        ensures kept { Kept changes.old changes.new }
+        ensures lists { with_lists result (lists trails.new) ≡ step_at (around M.Mail.trays M.Mail.LIMIT self.now (places trails.old)) (lists trails.old) at (statement_at self.now.level.now at) }
+        ensures kept { KeptBoth trails.old trails.new }
     {
         let number = self.level.code()[at + 1];
-        let (value, next) = self.expression(at + 2, changes)?;
+        let (value, next) = self.expression(at + 2, trails)?;
         self.write(
             Change {
                 piece: self.mover,
                 number,
                 value,
             },
-            changes,
+            trails,
         )?;
         Ok(next)
     }
 
     // A number of a piece becomes a value.
-    fn store(&self, at: usize, changes: &mut Trail<Change>) -> Result<usize, Why>
-        requires legible { legible (read_stmt (meaning self.now.level.now).signals 8 (drop at (code self.now.level.now))) ≡ true }
+    fn store(&self, at: usize, trails: &mut Trails) -> Result<usize, Why>
+        requires legible { legible (statement_at self.now.level.now at) ≡ true }
         requires byte { slice_index (code self.now.level.now) at ≡ 0x21 }
-        ensures lists { (ps : List Parcel) (n : ℕ) → with_lists result (record { changes = held changes.new; parcels = ps }) ≡ step_at (around M.Mail.trays M.Mail.LIMIT self.now (record { changes = room changes.old; parcels = n })) (record { changes = held changes.old; parcels = ps }) at (read_stmt (meaning self.now.level.now).signals 8 (drop at (code self.now.level.now))) }
-        ensures kept { Kept changes.old changes.new }
+        ensures lists { with_lists result (lists trails.new) ≡ step_at (around M.Mail.trays M.Mail.LIMIT self.now (places trails.old)) (lists trails.old) at (statement_at self.now.level.now at) }
+        ensures kept { KeptBoth trails.old trails.new }
     {
         let number = self.level.code()[at + 1];
-        let (named, middle) = self.expression(at + 2, changes)?;
-        let (value, next) = self.expression(middle, changes)?;
+        let (named, middle) = self.expression(at + 2, trails)?;
+        let (value, next) = self.expression(middle, trails)?;
         let piece = there(cell_named(self.level, named, number), at)?;
         self.write(
             Change {
@@ -124,83 +117,59 @@ impl<'a, 'b, 'c, 'd, 'e, M: Mail> Turn<'a, 'b, 'c, 'd, 'e, M> {
                 number,
                 value,
             },
-            changes,
+            trails,
         )?;
         Ok(next)
     }
 
     // A message goes to a piece.
-    fn post(
-        &self,
-        at: usize,
-        changes: &Trail<Change>,
-        parcels: &mut Trail<Parcel>,
-    ) -> Result<usize, Why>
-        requires legible { legible (read_stmt (meaning self.now.level.now).signals 8 (drop at (code self.now.level.now))) ≡ true }
+    fn post(&self, at: usize, trails: &mut Trails) -> Result<usize, Why>
+        requires legible { legible (statement_at self.now.level.now at) ≡ true }
         requires byte { slice_index (code self.now.level.now) at ≡ 0x22 }
-        ensures lists { (n : ℕ) → with_lists result (record { changes = held changes.now; parcels = held parcels.new }) ≡ step_at (around M.Mail.trays M.Mail.LIMIT self.now (record { changes = n; parcels = room parcels.old })) (record { changes = held changes.now; parcels = held parcels.old }) at (read_stmt (meaning self.now.level.now).signals 8 (drop at (code self.now.level.now))) }
-        ensures kept { Kept parcels.old parcels.new }
+        ensures lists { with_lists result (lists trails.new) ≡ step_at (around M.Mail.trays M.Mail.LIMIT self.now (places trails.old)) (lists trails.old) at (statement_at self.now.level.now at) }
+        ensures kept { KeptBoth trails.old trails.new }
     {
         let signal = self.level.code()[at + 1];
-        let (named, middle) = self.expression(at + 2, changes)?;
-        let (message, next) = self.message(signal, middle, changes)?;
+        let (named, middle) = self.expression(at + 2, trails)?;
+        let (message, next) = self.message(signal, middle, trails)?;
         let piece = there(piece_named(self.level, named), at)?;
-        self.send(Parcel { piece, message }, parcels)?;
+        self.send(Parcel { piece, message }, trails)?;
         Ok(next)
     }
 
     // The statement at a place, and the place after it.
-    fn statement(
-        &self,
-        at: usize,
-        changes: &mut Trail<Change>,
-        parcels: &mut Trail<Parcel>,
-    ) -> Result<usize, Why>
-        requires { legible (read_stmt (meaning self.now.level.now).signals 8 (drop at (code self.now.level.now))) ≡ true }
-        ensures lists { with_lists result (record { changes = held changes.new; parcels = held parcels.new }) ≡ step_at (around M.Mail.trays M.Mail.LIMIT self.now (record { changes = room changes.old; parcels = room parcels.old })) (record { changes = held changes.old; parcels = held parcels.old }) at (read_stmt (meaning self.now.level.now).signals 8 (drop at (code self.now.level.now))) }
-        ensures changes { Kept changes.old changes.new }
-        ensures parcels { Kept parcels.old parcels.new }
+    fn statement(&self, at: usize, trails: &mut Trails) -> Result<usize, Why>
+        requires { legible (statement_at self.now.level.now at) ≡ true }
+        ensures lists { with_lists result (lists trails.new) ≡ step_at (around M.Mail.trays M.Mail.LIMIT self.now (places trails.old)) (lists trails.old) at (statement_at self.now.level.now at) }
+        ensures kept { KeptBoth trails.old trails.new }
     {
         match self.level.code()[at] {
-            0x20 => self.assign(at, changes),
-            0x21 => self.store(at, changes),
-            0x22 => self.post(at, changes, parcels),
+            0x20 => self.assign(at, trails),
+            0x21 => self.store(at, trails),
+            0x22 => self.post(at, trails),
             _ => unreachable(),
         }
     }
 
     // The statements of an effect from a place on, of which `left` may still come.
-    fn statements(
-        &self,
-        at: usize,
-        left: u8,
-        changes: &mut Trail<Change>,
-        parcels: &mut Trail<Parcel>,
-    ) -> Result<(), Why>
-        requires { legible (read_effect (meaning self.now.level.now).signals 8 left (drop at (code self.now.level.now))) ≡ true }
-        ensures lists { lists_or result (record { changes = held changes.new; parcels = held parcels.new }) ≡ steps_at (around M.Mail.trays M.Mail.LIMIT self.now (record { changes = room changes.old; parcels = room parcels.old })) (record { changes = held changes.old; parcels = held parcels.old }) at (read_effect (meaning self.now.level.now).signals 8 left (drop at (code self.now.level.now))) }
-        ensures changes { Kept changes.old changes.new }
-        ensures parcels { Kept parcels.old parcels.new }
+    fn statements(&self, at: usize, left: u8, trails: &mut Trails) -> Result<(), Why>
+        requires { legible (effect_at self.now.level.now left at) ≡ true }
+        ensures lists { lists_or result (lists trails.new) ≡ steps_at (around M.Mail.trays M.Mail.LIMIT self.now (places trails.old)) (lists trails.old) at (effect_at self.now.level.now left at) }
+        ensures kept { KeptBoth trails.old trails.new }
     {
         if self.level.code()[at] == 0x00 {
             return Ok(());
         }
-        let next = self.statement(at, changes, parcels)?;
-        self.statements(next, left - 1, changes, parcels)
+        let next = self.statement(at, trails)?;
+        self.statements(next, left - 1, trails)
     }
 
     // The whole effect at a place.
-    pub(crate) fn effect(
-        &self,
-        at: usize,
-        changes: &mut Trail<Change>,
-        parcels: &mut Trail<Parcel>,
-    ) -> Result<(), Why>
-        requires { legible (read_effect (meaning self.now.level.now).signals 8 most_statements (drop at (code self.now.level.now))) ≡ true }
-        ensures lists { lists_or result (record { changes = held changes.new; parcels = held parcels.new }) ≡ steps_at (around M.Mail.trays M.Mail.LIMIT self.now (record { changes = room changes.old; parcels = room parcels.old })) (record { changes = held changes.old; parcels = held parcels.old }) at (read_effect (meaning self.now.level.now).signals 8 most_statements (drop at (code self.now.level.now))) }
-        ensures changes { Kept changes.old changes.new }
-        ensures parcels { Kept parcels.old parcels.new }
+    pub(crate) fn effect(&self, at: usize, trails: &mut Trails) -> Result<(), Why>
+        requires { legible (effect_at self.now.level.now most_statements at) ≡ true }
+        ensures lists { lists_or result (lists trails.new) ≡ steps_at (around M.Mail.trays M.Mail.LIMIT self.now (places trails.old)) (lists trails.old) at (effect_at self.now.level.now most_statements at) }
+        ensures kept { KeptBoth trails.old trails.new }
     {
-        self.statements(at, 8, changes, parcels)
+        self.statements(at, 8, trails)
     }
 }

@@ -1,9 +1,9 @@
 // Expressions, by recursion over the prefix code.
-ghost use Rattle.std.specs.Prelude.{◌≡◌, ◌+◌, ◌≤◌, true, length, drop, slice_index};
-ghost use Rattle.level.specs.Levels.{code};
-ghost use Rattle.level.specs.Reading.{number, read_expr};
+ghost use Rattle.std.specs.Prelude.{◌≡◌, ◌+◌, ◌≤◌, true, length, slice_index};
+ghost use Rattle.level.specs.Reading.{number};
 ghost use Rattle.level.specs.Sound.{deepest};
 ghost use Rattle.evaluator.specs.Reckoning.{cell_value, faulted, legible, sight, told, value_at};
+ghost use Rattle.evaluator.specs.Standing.{expression_at};
 
 use crate::arithmetic::{computed, holds, truth};
 use crate::halt::Halt;
@@ -48,8 +48,8 @@ impl<'a, 'b, 'c, 'd, 'e> View<'a, 'b, 'c, 'd, 'e> {
 
     // The value of the expression at a place, which moves past it; at a stumble, to the command that met it.
     fn nested(&self, at: &mut usize, depth: u8) -> Result<i32, Halt>
-        requires { legible (read_expr depth 8 (drop at.old (code self.now.level.now))) ≡ true }
-        ensures { told result at.new ≡ value_at (sight self.now) at.old (read_expr depth 8 (drop at.old (code self.now.level.now))) }
+        requires { legible (expression_at self.now.level.now depth at.old) ≡ true }
+        ensures { told result at.new ≡ value_at (sight self.now) at.old (expression_at self.now.level.now depth at.old) }
     {
         let code = self.level.code();
         let here = *at;
@@ -101,8 +101,8 @@ impl<'a, 'b, 'c, 'd, 'e> View<'a, 'b, 'c, 'd, 'e> {
 
     // The value of the whole expression at a place, and the place after it.
     pub fn expression(&self, at: usize) -> Result<(i32, usize), Why>
-        requires { legible (read_expr deepest 8 (drop at (code self.now.level.now))) ≡ true }
-        ensures { result ≡ value_at (sight self.now) at (read_expr deepest 8 (drop at (code self.now.level.now))) }
+        requires { legible (expression_at self.now.level.now deepest at) ≡ true }
+        ensures { result ≡ value_at (sight self.now) at (expression_at self.now.level.now deepest at) }
     {
         let mut place = at;
         match self.nested(&mut place, 8) {

@@ -1,27 +1,27 @@
 // A move's evaluation: that of a transition, and that of a discard.
-ghost use Rattle.std.specs.Prelude.{◌≡◌, true, ◌&&◌, map, drop, Some, ◌==◌};
+ghost use Rattle.std.specs.Prelude.{◌≡◌, true, ◌&&◌, map, Some, ◌==◌};
 ghost use Rattle.level.specs.Entries.{transition_entry};
-ghost use Rattle.level.specs.Levels.{code, meaning};
+ghost use Rattle.level.specs.Levels.{meaning};
 ghost use Rattle.level.specs.Places.{placed};
-ghost use Rattle.level.specs.Reading.{read_expr};
 ghost use Rattle.level.specs.Sound.{deepest};
 ghost use Rattle.level.specs.Tables.{nth};
 ghost use Rattle.rules.specs.Trace.{unwanted};
-ghost use Rattle.evaluator.specs.Meeting.{Kept, around, lists_or, transiting_by, with_list};
+ghost use Rattle.evaluator.specs.Meeting.{around, lists_or, receiving, transiting_by};
 ghost use Rattle.evaluator.specs.Reckoning.{board_of, legible};
-ghost use Rattle.evaluator.specs.Trails.{held, room};
+ghost use Rattle.evaluator.specs.Trails.{KeptBoth, held, lists, places};
+ghost use Rattle.evaluator.specs.Standing.{expression_at};
 ghost use Rattle.evaluator.specs.Rows.{states_of};
-ghost use Rattle.evaluator.specs.Trying.{discarded, entering, held_at, numbers_of, tried, tried_by, trial_of, trial_sight, wanted};
+ghost use Rattle.evaluator.specs.Trying.{discarded, held_at, numbers_of, tried, tried_by, trial_of, trial_sight, wanted};
 
 use crate::arithmetic::holds;
-use crate::trail::Trail;
+use crate::trail::Trails;
 use crate::turn::Turn;
 use crate::view::View;
 use level::entry::TransitionEntry;
 use mail::Mail;
 use mail::message::Message;
 use rules::fault::Why;
-use rules::trail::{Change, Parcel};
+use rules::trail::Change;
 
 // Whether a transition is one of this kind that leaves this state on the message's signal.
 fn wants(found: TransitionEntry, kind: u8, state: u8, message: Message) -> bool
@@ -32,21 +32,21 @@ fn wants(found: TransitionEntry, kind: u8, state: u8, message: Message) -> bool
 
 impl<'a, 'b, 'c, 'd, 'e, M: Mail> Turn<'a, 'b, 'c, 'd, 'e, M> {
     // A number of the mover becomes a number of the message, if one receives it.
-    fn receive(&self, into: Option<u8>, value: i32, changes: &mut Trail<Change>) -> Result<(), Why>
-        ensures list { with_list result (held changes.new) ≡ entering self.now.written (room changes.old) self.now.mover (held changes.old) (numbers_of into value) }
-        ensures kept { Kept changes.old changes.new }
+    fn receive(&self, into: Option<u8>, value: i32, trails: &mut Trails) -> Result<(), Why>
+        ensures lists { lists_or result (lists trails.new) ≡ receiving (around M.Mail.trays M.Mail.LIMIT self.now (places trails.old)) (lists trails.old) (numbers_of into value) }
+        ensures kept { KeptBoth trails.old trails.new }
     {
-        match into {
-            Some(number) => self.write(
-                Change {
-                    piece: self.mover,
-                    number,
-                    value,
-                },
-                changes,
-            ),
-            None => Ok(()),
-        }
+        let Some(number) = into else {
+            return Ok(());
+        };
+        self.write(
+            Change {
+                piece: self.mover,
+                number,
+                value,
+            },
+            trails,
+        )
     }
 
     // The numbers of the message are received in order, before the guard.
@@ -54,27 +54,27 @@ impl<'a, 'b, 'c, 'd, 'e, M: Mail> Turn<'a, 'b, 'c, 'd, 'e, M> {
         &self,
         found: TransitionEntry,
         message: Option<Message>,
-        changes: &mut Trail<Change>,
+        trails: &mut Trails,
     ) -> Result<(), Why>
-        ensures list { with_list result (held changes.new) ≡ entering self.now.written (room changes.old) self.now.mover (held changes.old) (trial_of found message) }
-        ensures kept { Kept changes.old changes.new }
+        ensures lists { lists_or result (lists trails.new) ≡ receiving (around M.Mail.trays M.Mail.LIMIT self.now (places trails.old)) (lists trails.old) (trial_of found message) }
+        ensures kept { KeptBoth trails.old trails.new }
     {
         let Some(message) = message else {
             return Ok(());
         };
-        self.receive(found.first, message.first, changes)?;
-        self.receive(found.second, message.second, changes)
+        self.receive(found.first, message.first, trails)?;
+        self.receive(found.second, message.second, trails)
     }
 
     // Whether the guard at a place holds, with these changes as the move's own and all in the trail as earlier ones.
-    fn trial(&self, at: usize, own: &[Change], changes: &Trail<Change>) -> Result<bool, Why>
-        requires { legible (read_expr deepest 8 (drop at (code self.now.level.now))) ≡ true }
-        ensures { result ≡ held_at (trial_sight self.now own.now (held changes.now)) at (read_expr deepest 8 (drop at (code self.now.level.now))) }
+    fn trial(&self, at: usize, own: &[Change], trails: &Trails) -> Result<bool, Why>
+        requires { legible (expression_at self.now.level.now deepest at) ≡ true }
+        ensures { result ≡ held_at (trial_sight self.now own.now (held trails.now.changes)) at (expression_at self.now.level.now deepest at) }
     {
         let view = View {
             level: self.level,
             table: self.table,
-            earlier: changes.entries(),
+            earlier: trails.changes.entries(),
             own,
             mover: self.mover,
         };
@@ -95,25 +95,25 @@ impl<'a, 'b, 'c, 'd, 'e, M: Mail> Turn<'a, 'b, 'c, 'd, 'e, M> {
 
     // Whether the transition of a number, which wants the message, has a true guard. The numbers that it would receive are laid over
     // for the trial only.
-    fn tried(&self, number: usize, message: Message, changes: &Trail<Change>) -> Result<bool, Why>
-        ensures { result ≡ tried_by (tried (meaning self.now.level.now) (board_of self.now.table.now) self.now.mover (held changes.now) message) (nth (placed (meaning self.now.level.now)) number) }
+    fn tried(&self, number: usize, message: Message, trails: &Trails) -> Result<bool, Why>
+        ensures { result ≡ tried_by (tried (meaning self.now.level.now) (board_of self.now.table.now) self.now.mover (held trails.now.changes) message) (nth (placed (meaning self.now.level.now)) number) }
     {
         let Some(found) = self.level.transition(number) else {
             return Ok(false);
         };
         match found.first {
-            None => self.trial(found.guard, &[], changes),
+            None => self.trial(found.guard, &[], trails),
             Some(first) => match found.second {
                 None => {
                     let own = [self.laid(first, message.first)];
-                    self.trial(found.guard, &own, changes)
+                    self.trial(found.guard, &own, trails)
                 }
                 Some(second) => {
                     let own = [
                         self.laid(first, message.first),
                         self.laid(second, message.second),
                     ];
-                    self.trial(found.guard, &own, changes)
+                    self.trial(found.guard, &own, trails)
                 }
             },
         }
@@ -126,25 +126,25 @@ impl<'a, 'b, 'c, 'd, 'e, M: Mail> Turn<'a, 'b, 'c, 'd, 'e, M> {
         found: TransitionEntry,
         kind: u8,
         message: Message,
-        changes: &Trail<Change>,
+        trails: &Trails,
     ) -> Result<bool, Why>
         requires { Some found ≡ nth (map transition_entry (placed (meaning self.now.level.now))) number }
-        ensures { result ≡ tried_by (wanted (meaning self.now.level.now) (board_of self.now.table.now) self.now.mover (held changes.now) kind (states_of self.now.table.now self.now.mover) message) (nth (placed (meaning self.now.level.now)) number) }
+        ensures { result ≡ tried_by (wanted (meaning self.now.level.now) (board_of self.now.table.now) self.now.mover (held trails.now.changes) kind (states_of self.now.table.now self.now.mover) message) (nth (placed (meaning self.now.level.now)) number) }
     {
         if !wants(found, kind, self.table.state(self.mover), message) {
             return Ok(false);
         }
-        self.tried(number, message, changes)
+        self.tried(number, message, trails)
     }
 
     // A discard by a piece of this kind: refused where a transition that wants the message has a true guard, each tried in level
     // order.
-    pub fn discard(&self, kind: u8, message: Message, changes: &Trail<Change>) -> Result<(), Why>
-        ensures { result ≡ discarded (held changes.now) (unwanted (meaning self.now.level.now) (board_of self.now.table.now) self.now.mover kind (states_of self.now.table.now self.now.mover) message (placed (meaning self.now.level.now))) }
+    pub fn discard(&self, kind: u8, message: Message, trails: &Trails) -> Result<(), Why>
+        ensures { result ≡ discarded (held trails.now.changes) (unwanted (meaning self.now.level.now) (board_of self.now.table.now) self.now.mover kind (states_of self.now.table.now self.now.mover) message (placed (meaning self.now.level.now))) }
     {
         let mut number = 0;
         while let Some(found) = self.level.transition(number) {
-            if self.wanted(number, found, kind, message, changes)? {
+            if self.wanted(number, found, kind, message, trails)? {
                 return Err(Why::Guard);
             }
             number += 1;
@@ -158,21 +158,19 @@ impl<'a, 'b, 'c, 'd, 'e, M: Mail> Turn<'a, 'b, 'c, 'd, 'e, M> {
         &self,
         number: usize,
         message: Option<Message>,
-        changes: &mut Trail<Change>,
-        parcels: &mut Trail<Parcel>,
+        trails: &mut Trails,
     ) -> Result<(), Why>
-        ensures lists { lists_or result (record { changes = held changes.new; parcels = held parcels.new }) ≡ transiting_by (around M.Mail.trays M.Mail.LIMIT self.now (record { changes = room changes.old; parcels = room parcels.old })) (record { changes = held changes.old; parcels = held parcels.old }) (nth (placed (meaning self.now.level.now)) number) message }
-        ensures changes { Kept changes.old changes.new }
-        ensures parcels { Kept parcels.old parcels.new }
+        ensures lists { lists_or result (lists trails.new) ≡ transiting_by (around M.Mail.trays M.Mail.LIMIT self.now (places trails.old)) (lists trails.old) (nth (placed (meaning self.now.level.now)) number) message }
+        ensures kept { KeptBoth trails.old trails.new }
     {
         let Some(found) = self.level.transition(number) else {
             return Err(Why::Unknown);
         };
-        self.received(found, message, changes)?;
-        let (value, _) = self.expression(found.guard, changes)?;
+        self.received(found, message, trails)?;
+        let (value, _) = self.expression(found.guard, trails)?;
         if !holds(value) {
             return Err(Why::Guard);
         }
-        self.effect(found.effect, changes, parcels)
+        self.effect(found.effect, trails)
     }
 }

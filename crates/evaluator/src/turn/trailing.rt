@@ -1,15 +1,15 @@
 // Values that a move reads, and what it writes and sends.
-ghost use Rattle.std.specs.Prelude.{◌≡◌, ◌≤◌, true, length, drop};
-ghost use Rattle.level.specs.Levels.{code};
-ghost use Rattle.level.specs.Reading.{read_expr};
+ghost use Rattle.std.specs.Prelude.{◌≡◌, ◌≤◌, true};
 ghost use Rattle.level.specs.Sound.{deepest};
-ghost use Rattle.evaluator.specs.Meeting.{Kept, left_of, send_to, sight_of, with_list, write_to};
+ghost use Rattle.rules.specs.Trace.{sends, writes};
+ghost use Rattle.evaluator.specs.Meeting.{around, left_of, lists_or, meet, sight_of};
 ghost use Rattle.evaluator.specs.Reckoning.{legible, value_at};
-ghost use Rattle.evaluator.specs.Trails.{held, room};
+ghost use Rattle.evaluator.specs.Standing.{expression_at};
+ghost use Rattle.evaluator.specs.Trails.{KeptBoth, held, lists, places};
 
 use super::Turn;
 use crate::lookup::{last_change, parcels_to};
-use crate::trail::Trail;
+use crate::trail::Trails;
 use crate::view::View;
 use mail::Mail;
 use rules::fault::Why;
@@ -17,29 +17,31 @@ use rules::trail::{Change, Parcel};
 
 impl<'a, 'b, 'c, 'd, 'e, M: Mail> Turn<'a, 'b, 'c, 'd, 'e, M> {
     // The value of the expression at a place, and the place after it.
-    pub(crate) fn expression(&self, at: usize, changes: &Trail<Change>) -> Result<(i32, usize), Why>
-        requires { legible (read_expr deepest 8 (drop at (code self.now.level.now))) ≡ true }
-        ensures { result ≡ value_at (sight_of self.now (held changes.now)) at (read_expr deepest 8 (drop at (code self.now.level.now))) }
+    pub(crate) fn expression(&self, at: usize, trails: &Trails) -> Result<(i32, usize), Why>
+        requires { legible (expression_at self.now.level.now deepest at) ≡ true }
+        ensures { result ≡ value_at (sight_of self.now (held trails.now.changes)) at (expression_at self.now.level.now deepest at) }
     {
         let view = View {
             level: self.level,
             table: self.table,
-            earlier: changes.before(self.written),
-            own: changes.since(self.written),
+            earlier: trails.changes.before(self.written),
+            own: trails.changes.since(self.written),
             mover: self.mover,
         };
         view.expression(at)
     }
 
     // A change more, unless an earlier move has written the cell. Full trails hold what any beat writes, so that there is a place.
-    pub fn write(&self, change: Change, changes: &mut Trail<Change>) -> Result<(), Why>
-        ensures list { with_list result (held changes.new) ≡ write_to self.now.written (room changes.old) (held changes.old) change }
-        ensures kept { Kept changes.old changes.new }
+    pub fn write(&self, change: Change, trails: &mut Trails) -> Result<(), Why>
+        ensures lists { lists_or result (lists trails.new) ≡ meet (around M.Mail.trays M.Mail.LIMIT self.now (places trails.old)) (lists trails.old) (writes change.piece change.number change.value) }
+        ensures parcels { held trails.new.parcels ≡ held trails.old.parcels }
+        ensures kept { KeptBoth trails.old trails.new }
     {
-        if last_change(changes.before(self.written), change.piece, change.number).is_some() {
+        let earlier = trails.changes.before(self.written);
+        if last_change(earlier, change.piece, change.number).is_some() {
             return Err(Why::Clash);
         }
-        changes.push(change);
+        trails.changes.push(change);
         Ok(())
     }
 
@@ -56,18 +58,19 @@ impl<'a, 'b, 'c, 'd, 'e, M: Mail> Turn<'a, 'b, 'c, 'd, 'e, M> {
     }
 
     // A parcel more, unless an earlier move has sent to the piece or its tray is full.
-    pub fn send(&self, parcel: Parcel, parcels: &mut Trail<Parcel>) -> Result<(), Why>
-        ensures list { with_list result (held parcels.new) ≡ send_to (left_of M.Mail.trays self.now) M.Mail.LIMIT self.now.sent (room parcels.old) (held parcels.old) parcel }
-        ensures kept { Kept parcels.old parcels.new }
+    pub fn send(&self, parcel: Parcel, trails: &mut Trails) -> Result<(), Why>
+        ensures lists { lists_or result (lists trails.new) ≡ meet (around M.Mail.trays M.Mail.LIMIT self.now (places trails.old)) (lists trails.old) (sends parcel.piece parcel.message) }
+        ensures changes { held trails.new.changes ≡ held trails.old.changes }
+        ensures kept { KeptBoth trails.old trails.new }
     {
-        if parcels_to(parcels.before(self.sent), parcel.piece) > 0 {
+        if parcels_to(trails.parcels.before(self.sent), parcel.piece) > 0 {
             return Err(Why::Clash);
         }
-        let own = parcels_to(parcels.since(self.sent), parcel.piece);
+        let own = parcels_to(trails.parcels.since(self.sent), parcel.piece);
         if self.left(parcel.piece) + own == M::LIMIT {
             return Err(Why::TrayFull);
         }
-        parcels.push(parcel);
+        trails.parcels.push(parcel);
         Ok(())
     }
 }

@@ -7,4 +7,4 @@ statements-requires g c = c.requires
 
 pub returns : goal.returns
 unfolding most_statements
-returns g c = record { lists = c.statements.ensures.lists; changes = c.statements.ensures.changes; parcels = c.statements.ensures.parcels }
+returns g c = c.statements.ensures
