@@ -39,7 +39,7 @@ fn there(named: Option<u8>, place: usize) -> Result<u8, Stumble>
     }
 }
 
-impl<'a, 'b, 'c, 'd, 'e, M: Mail> Turn<'a, 'b, 'c, 'd, 'e, M> {
+impl<M: Mail> Turn<'_, M> {
     // The message of a signal whose numbers are the values of the expressions at a place, and the place after them.
     fn message(&self, signal: u8, at: usize, trails: &Trails) -> Result<(Message, usize), Why>
         requires { legible (expressions_at self.now.level.now signal at) ≡ true }

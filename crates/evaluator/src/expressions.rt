@@ -32,7 +32,7 @@ impl Halt {
     }
 }
 
-impl<'a, 'b, 'c, 'd, 'e> View<'a, 'b, 'c, 'd, 'e> {
+impl View<'_> {
     // The value of a cell: the own one, if the move has written it. Else it is a read, which clashes with an earlier write.
     fn read(&self, piece: u8, number: u8) -> Result<i32, Halt>
         ensures { result ≡ cell_value (sight self.now) piece number }

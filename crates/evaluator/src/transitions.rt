@@ -30,7 +30,7 @@ fn wants(found: TransitionEntry, kind: u8, state: u8, message: Message) -> bool
     found.kind == kind && found.source == state && found.signal == message.signal
 }
 
-impl<'a, 'b, 'c, 'd, 'e, M: Mail> Turn<'a, 'b, 'c, 'd, 'e, M> {
+impl<M: Mail> Turn<'_, M> {
     // A number of the mover becomes a number of the message, if one receives it.
     fn receive(&self, into: Option<u8>, value: i32, trails: &mut Trails) -> Result<(), Why>
         ensures lists { lists_or result (lists trails.new) ≡ receiving (around M.Mail.trays M.Mail.LIMIT self.now (places trails.old)) (lists trails.old) (numbers_of into value) }

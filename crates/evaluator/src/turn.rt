@@ -8,11 +8,11 @@ use level::Level;
 // It is a move of piece `mover` in a level, with the rows and the mail as they stood before the beat, and this move already noted
 // among those listed. Its own entries in the trails begin at the two marks.
 #[derive(Drop)]
-pub struct Turn<'a, 'b, 'c, 'd, 'e, M> {
-    pub level: &'a Level<'e>,
-    pub table: &'b Table,
-    pub mail: &'c M,
-    pub listed: &'d Listed,
+pub struct Turn<'a, M> {
+    pub level: &'a Level<'a>,
+    pub table: &'a Table,
+    pub mail: &'a M,
+    pub listed: &'a Listed,
     pub mover: u8,
     pub written: usize,
     pub sent: usize,

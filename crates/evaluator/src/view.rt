@@ -6,10 +6,10 @@ use rules::trail::Change;
 // The level in which the code stands, the rows as they were before the beat, the changes that the moves listed earlier made, the
 // move's own, and the piece that moves.
 #[derive(Drop)]
-pub struct View<'a, 'b, 'c, 'd, 'e> {
-    pub level: &'a Level<'e>,
-    pub table: &'b Table,
-    pub earlier: &'c [Change],
-    pub own: &'d [Change],
+pub struct View<'a> {
+    pub level: &'a Level<'a>,
+    pub table: &'a Table,
+    pub earlier: &'a [Change],
+    pub own: &'a [Change],
     pub mover: u8,
 }

@@ -15,7 +15,7 @@ use mail::Mail;
 use rules::fault::Why;
 use rules::trail::{Change, Parcel};
 
-impl<'a, 'b, 'c, 'd, 'e, M: Mail> Turn<'a, 'b, 'c, 'd, 'e, M> {
+impl<M: Mail> Turn<'_, M> {
     // The value of the expression at a place, and the place after it.
     pub(crate) fn expression(&self, at: usize, trails: &Trails) -> Result<(i32, usize), Why>
         requires { legible (expression_at self.now.level.now deepest at) ≡ true }
