@@ -7,7 +7,7 @@ use Rattle.rules.specs.declared.trail.Change.{Change}
 use Rattle.rules.specs.Game.{with_number}
 use Rattle.evaluator.specs.declared.table.Row.{Row}
 use Rattle.evaluator.specs.declared.table.Table.{Table}
-use Rattle.evaluator.specs.Rows.{no_row, row_of, states_of, numbers_of, written}
+use Rattle.evaluator.specs.Rows.{no_row, row_of, numbers_of, written}
 
 set_at : {A : Type 0} (l : List A) (i j : ℕ) (v d : A) → i < length l → get_or (set l i v) j d ≡ cond (eqb i j) v (get_or l j d)
 set_at l i j v d h = ⊎_elim
@@ -23,19 +23,12 @@ module _ (t : Table) (c : Change) (piece : c.piece < 32) (number : c.number < 8)
   row_at : (q : ℕ) → get_or (set t.rows c.piece new) q no_row ≡ cond (eqb c.piece q) new (row_of t q)
   row_at q = set_at t.rows c.piece q new no_row (let w = t.whole in omega arith)
 
-  state_at : (q : ℕ) (b : Bool) → (b ≡ true → c.piece ≡ q) → (cond b new (row_of t q)).state ≡ states_of t q
-  state_at q true h = ap (states_of t) (h refl)
-  state_at q false h = refl
-
   number_at : (q a : ℕ) (b : Bool) → (b ≡ true → c.piece ≡ q) → get_or (cond b new (row_of t q)).numbers a (pos 0) ≡ cond (b && eqb c.number a) c.value (numbers_of t q a)
   number_at q a true h =
       set_at (row_of t c.piece).numbers c.number a v (pos 0) (omega arith)
       ∙ ap (λ w. cond (eqb c.number a) w (numbers_of t c.piece a)) e
       ∙ ap (λ p. cond (eqb c.number a) c.value (numbers_of t p a)) (h refl)
   number_at q a false h = refl
-
-  pub states_kept : (λ q. (get_or (set t.rows c.piece new) q no_row).state) ≡ states_of t
-  states_kept = fun_ext (λ q. ap (λ r. r.state) (row_at q) ∙ state_at q (eqb c.piece q) (eqb-true c.piece q))
 
   pub number_written : (λ q a. get_or (get_or (set t.rows c.piece new) q no_row).numbers a (pos 0)) ≡ written (numbers_of t) c
   number_written =

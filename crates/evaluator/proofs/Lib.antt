@@ -1,11 +1,9 @@
 pub mod Cells
 pub mod Noting
 pub mod Looking
-pub mod Naming
 pub mod Quotients
 pub mod Following
 pub mod Reckoned
-pub mod Cutting
 pub mod Messages
 pub mod Keeping
 pub mod Meeting

@@ -1,37 +1,52 @@
--- The last change to a cell, and the parcels to a piece, as loops find them.
-use Rattle.std.proofs.Common.{◌≡◌, ℕ, suc, ◌+◌, ◌<◌, ◌≤◌, false, cond, ◌&&◌, eqb, List, [], ◌∷◌, ◌++◌, length, get_or, take, drop, pos, Some, refl, ap, ◌∙◌, arith}
-use Rattle.std.proofs.lemmas.List.{take_more, at_drop_more, at_drop_all}
-use Rattle.std.proofs.lemmas.Bool.Decides.{nat_tests}
+-- The last change to a cell, and the parcels to a piece, as the chains find them.
+use Rattle.std.proofs.Common.{◌≡◌, ℕ, suc, ◌+◌, ◌≤◌, Bool, true, false, cond, ◌&&◌, eqb, List, [], ◌∷◌, ◌++◌, reverse, length, drop, find, count_by, option_map, ℤ, Some, None, Option, sym, refl, ap, ◌∙◌, arith}
+use Rattle.std.specs.Option.{option_or}
+use Rattle.std.proofs.lemmas.List.{at_drop_all, reverse-append}
+use Rattle.std.proofs.lemmas.List.Folds.{find-append}
+use Rattle.std.proofs.lemmas.List.Recursion.{is_count_by}
 use Rattle.rules.specs.declared.trail.Change.{Change}
 use Rattle.rules.specs.declared.trail.Parcel.{Parcel}
-use Rattle.rules.specs.Game.{same}
 use Rattle.rules.specs.Trace.{Own, no_writes, over}
 use Rattle.evaluator.specs.Lookup.{laid_on, last_change, parcels_to}
-
-abbrev pub no_change : Change
-no_change = record { piece = 0; number = 0; value = pos 0 }
-
-abbrev pub no_parcel : Parcel
-no_parcel = record { piece = 0; message = record { signal = 0; first = pos 0; second = pos 0 } }
 
 -- one change more, written last
 pub laid_snoc : (cs : List Change) (c : Change) (o : Own) → laid_on (cs ++ (c ∷ [])) o ≡ over (laid_on cs o) c.piece c.number c.value
 laid_snoc [] c o = refl
 laid_snoc (x ∷ cs) c o = laid_snoc cs c (over o x.piece x.number x.value)
 
-module _ (cs : List Change) (i p a : ℕ) (h : i < length cs) where
-  last_at : last_change (take (i + 1) cs) p a ≡ cond (same (get_or cs i no_change).piece (get_or cs i no_change).number p a) (Some (get_or cs i no_change).value) (last_change (take i cs) p a)
-  last_at = ap (λ l. last_change l p a) (take_more cs i no_change h) ∙ ap (λ (o : Own). o p a) (laid_snoc (take i cs) (get_or cs i no_change) no_writes)
+-- the change to a cell that is found from the end
+abbrev is_to : ℕ → ℕ → Change → Bool
+is_to p a c = eqb c.piece p && eqb c.number a
 
-  pub last_found : (get_or cs i no_change).piece ≡ p → (get_or cs i no_change).number ≡ a → last_change (take (i + 1) cs) p a ≡ Some (get_or cs i no_change).value
-  last_found e f = last_at ∙ grind (arith, nat_tests)
+abbrev value_of : Option Change → Option ℤ
+value_of r = option_map (λ (c : Change). c.value) r
 
-  pub last_before : ((eqb (get_or cs i no_change).piece p && eqb (get_or cs i no_change).number a) ≡ false) → last_change (take (i + 1) cs) p a ≡ last_change (take i cs) p a
-  last_before e = last_at ∙ rw e
+last_found : (cs : List Change) (o : Own) (p a : ℕ) → laid_on cs o p a ≡ option_or (value_of (find (is_to p a) (reverse cs))) (o p a)
+last_found [] o p a = refl
+last_found (c ∷ cs) o p a =
+    last_found cs (over o c.piece c.number c.value) p a
+    ∙ go (find (is_to p a) (reverse cs)) (is_to p a c)
+    ∙ ap (λ r. option_or (value_of r) (o p a)) (sym (find-append (is_to p a) (reverse cs) (c ∷ [])))
+    ∙ ap (λ l. option_or (value_of (find (is_to p a) l)) (o p a)) (sym (reverse-append (c ∷ []) cs))
+  where
+    go : (r : Option Change) (b : Bool) → option_or (value_of r) (cond b (Some c.value) (o p a)) ≡ option_or (value_of (option_or r (cond b (Some c) None))) (o p a)
+    go (Some x) b = refl
+    go None true = refl
+    go None false = refl
 
-pub parcels_more : (ps : List Parcel) (i q : ℕ) → i < length ps
-    → parcels_to (drop i ps) q ≡ cond (eqb (get_or ps i no_parcel).piece q) (suc (parcels_to (drop (i + 1) ps) q)) (parcels_to (drop (i + 1) ps) q)
-parcels_more ps i q h = at_drop_more (λ l. parcels_to l q) ps i no_parcel h
+pub found_last : (cs : List Change) (p a : ℕ) → option_map (λ (c : Change). c.value) (find (λ (c : Change). eqb c.piece p && eqb c.number a) (reverse cs)) ≡ last_change cs p a
+found_last cs p a = sym (last_found cs no_writes p a ∙ go (value_of (find (is_to p a) (reverse cs))))
+  where
+    go : (r : Option ℤ) → option_or r None ≡ r
+    go (Some x) = refl
+    go None = refl
+
+pub parcels_counted : (ps : List Parcel) (q : ℕ) → count_by (λ (c : Parcel). eqb c.piece q) ps ≡ parcels_to ps q
+parcels_counted ps q = sym (is_count_by (λ l. parcels_to l q) (λ c. eqb c.piece q) refl (λ c cs. more (eqb c.piece q) (parcels_to cs q)) ps)
+  where
+    more : (b : Bool) (n : ℕ) → cond b (suc n) n ≡ cond b (1 + n) n
+    more true n = omega arith
+    more false n = refl
 
 pub parcels_all : (ps : List Parcel) (i q : ℕ) → length ps ≤ i → parcels_to (drop i ps) q ≡ 0
 parcels_all ps i q h = at_drop_all (λ l. parcels_to l q) ps i h

@@ -3,11 +3,16 @@ mod notes;
 
 ghost use Rattle.std.specs.Prelude.{◌≡◌, length};
 
-// Which pieces have moved, and from which trays a message was taken.
+// Whether a piece has moved, and whether a message was taken from its tray.
+#[derive(Clone, Copy, Default)]
+pub struct Note {
+    moved: bool,
+    took: bool,
+}
+
+// A note for each piece number, 0 to 31.
 #[derive(Drop)]
 pub struct Listed {
-    moved: [bool; 32],
-    took: [bool; 32],
-    ghost movers: { length moved ≡ 32 },
-    ghost takers: { length took ≡ 32 },
+    notes: [Note; 32],
+    ghost whole: { length notes ≡ 32 },
 }

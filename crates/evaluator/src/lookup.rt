@@ -8,12 +8,11 @@ use rules::trail::{Change, Parcel};
 pub fn last_change(changes: &[Change], piece: u8, number: u8) -> Option<i32>
     ensures { result ≡ last_change changes.now piece number }
 {
-    for i in (0..changes.len()).rev() {
-        if changes[i].piece == piece && changes[i].number == number {
-            return Some(changes[i].value);
-        }
-    }
-    None
+    changes
+        .iter()
+        .rev()
+        .find(|change| change.piece == piece && change.number == number)
+        .map(|change| change.value)
 }
 
 // How many parcels go to a piece.
@@ -21,11 +20,8 @@ pub fn parcels_to(parcels: &[Parcel], piece: u8) -> usize
     ensures count { result ≡ parcels_to parcels.now piece }
     ensures few { result ≤ length parcels.now }
 {
-    let mut count = 0;
-    for parcel in parcels {
-        if parcel.piece == piece {
-            count += 1;
-        }
-    }
-    count
+    parcels
+        .iter()
+        .filter(|parcel| parcel.piece == piece)
+        .count()
 }

@@ -9,14 +9,8 @@ use level::Level;
 pub fn piece_named(level: &Level, value: i32) -> Option<u8>
     ensures { result ≡ piece_named (meaning level.now) value }
 {
-    if value < 0 {
-        return None;
-    }
-    let piece = value as usize;
-    if piece >= level.pieces() {
-        return None;
-    }
-    Some(piece as u8)
+    let piece = u8::try_from(value).ok()?;
+    ((piece as usize) < level.pieces()).then_some(piece)
 }
 
 // The piece that a value names, if it has this number.
@@ -24,8 +18,6 @@ pub fn cell_named(level: &Level, value: i32, number: u8) -> Option<u8>
     ensures { result ≡ cell_named (meaning level.now) value number }
 {
     let piece = piece_named(level, value)?;
-    match level.piece(piece as usize) {
-        Some(entry) if number < entry.numbers => Some(piece),
-        _ => None,
-    }
+    let entry = level.piece(piece as usize)?;
+    (number < entry.numbers).then_some(piece)
 }

@@ -2,7 +2,7 @@
 ghost use Rattle.std.specs.Prelude.{◌≡◌, false, ◌&&◌, ◌||◌};
 ghost use Rattle.evaluator.specs.Listing.{moved_in, noted, took_in};
 
-use super::Listed;
+use super::{Listed, Note};
 
 impl Listed {
     // No move yet.
@@ -11,8 +11,7 @@ impl Listed {
         ensures took { took_in result ≡ (λ p. false) }
     {
         Listed {
-            moved: [false; 32],
-            took: [false; 32],
+            notes: [Note::default(); 32],
         }
     }
 
@@ -20,23 +19,20 @@ impl Listed {
     pub fn has_moved(&self, piece: u8) -> bool
         ensures { result ≡ moved_in self.now piece }
     {
-        if piece > 31 {
-            return false;
-        }
-        self.moved[piece as usize]
+        self.notes
+            .get(piece as usize)
+            .is_some_and(|note| note.moved)
     }
 
     // Whether a message was taken from its tray.
     pub fn has_taken(&self, piece: u8) -> bool
         ensures { result ≡ took_in self.now piece }
     {
-        if piece > 31 {
-            return false;
-        }
-        self.took[piece as usize]
+        self.notes.get(piece as usize).is_some_and(|note| note.took)
     }
 
-    // One move more, of this piece, which may take a message. A piece over 31 is none.
+    // One move more, of this piece, which may take a message. A piece over 31 is none. The note is indexed after a test, as a row is
+    // that is changed.
     pub fn note(&mut self, piece: u8, takes: bool)
         ensures moved { moved_in self.new ≡ noted (moved_in self.old) piece }
         ensures took { took_in self.new ≡ (λ q. took_in self.old q || (takes && noted (λ _. false) piece q)) }
@@ -44,9 +40,8 @@ impl Listed {
         if piece > 31 {
             return;
         }
-        self.moved[piece as usize] = true;
-        if takes {
-            self.took[piece as usize] = true;
-        }
+        let note = &mut self.notes[piece as usize];
+        note.moved = true;
+        note.took |= takes;
     }
 }

@@ -13,6 +13,7 @@ impl Row {
     };
 }
 
+// A row that is changed is indexed after a test, since `get_mut` does not say what the rows are after its loan.
 impl Table {
     // Every piece in state 0 with all numbers 0.
     pub fn new() -> Self
@@ -27,23 +28,17 @@ impl Table {
     pub fn state(&self, piece: u8) -> u8
         ensures { result ≡ states_of self.now piece }
     {
-        if piece > 31 {
-            return 0;
-        }
-        self.rows[piece as usize].state
+        self.rows.get(piece as usize).map_or(0, |row| row.state)
     }
 
     // A number of a piece; a number that its row has not is 0.
     pub fn number(&self, piece: u8, index: usize) -> i32
         ensures { result ≡ numbers_of self.now piece index }
     {
-        if piece > 31 {
+        let Some(row) = self.rows.get(piece as usize) else {
             return 0;
-        }
-        match self.rows[piece as usize].numbers.get(index) {
-            Some(value) => *value,
-            None => 0,
-        }
+        };
+        row.numbers.get(index).copied().unwrap_or(0)
     }
 
     // Piece `piece` gets state 0 and these numbers; a piece over 31 has no row.

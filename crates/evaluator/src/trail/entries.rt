@@ -1,6 +1,6 @@
 // A trail as the list of its entries.
-ghost use Rattle.std.specs.Prelude.{◌≡◌, [], ◌∷◌, ◌++◌, length, take, drop, if◌then◌else◌, nat_lt};
-ghost use Rattle.evaluator.specs.Trails.{held, room};
+ghost use Rattle.std.specs.Prelude.{◌≡◌, [], ◌∷◌, ◌++◌, length, take, drop, if◌then◌else◌, is_ok, nat_lt};
+ghost use Rattle.evaluator.specs.Trails.{Kept, held, room};
 
 use super::Trail;
 
@@ -31,7 +31,7 @@ impl<'a, T: Copy> Trail<'a, T> {
     pub fn entries(&self) -> &[T]
         ensures { result.now ≡ held self.now }
     {
-        &self.places[0..self.count]
+        &self.places[..self.count]
     }
 
     // The entries before a mark; all of them, if there are no more.
@@ -39,38 +39,36 @@ impl<'a, T: Copy> Trail<'a, T> {
         ensures { result.now ≡ take mark (held self.now) }
     {
         let entries = self.entries();
-        &entries[0..mark.min(entries.len())]
+        entries.get(..mark).unwrap_or(entries)
     }
 
     // The entries from a mark on; none, if there are no more.
     pub fn since(&self, mark: usize) -> &[T]
         ensures { result.now ≡ drop mark (held self.now) }
     {
-        let entries = self.entries();
-        &entries[mark.min(entries.len())..]
+        self.entries().get(mark..).unwrap_or(&[])
     }
 
-    // One entry more at the end; false, and nothing changes, where there is no place for it.
-    pub fn push(&mut self, entry: T) -> bool
-        ensures answer { result ≡ nat_lt (length (held self.old)) (room self.old) }
-        ensures after { held self.new ≡ (if result then held self.old ++ (entry ∷ []) else held self.old) }
-        ensures room { room self.new ≡ room self.old }
-        ensures same { self.new.places.ghost_name ≡ self.old.places.ghost_name }
+    // One entry more at the end; it is given back, and nothing changes, where there is no place for it. The place is indexed after a
+    // test, since `get_mut` does not say what the places are after its loan.
+    pub fn push(&mut self, entry: T) -> Result<(), T>
+        ensures answer { result ≡ (if nat_lt (length (held self.old)) (room self.old) then Ok tt else Err entry) }
+        ensures after { held self.new ≡ (if is_ok result then held self.old ++ (entry ∷ []) else held self.old) }
+        ensures kept { Kept self.old self.new }
     {
         let at = self.count;
         if at >= self.room() {
-            return false;
+            return Err(entry);
         }
         self.places[at] = entry;
         self.count = at + 1;
-        true
+        Ok(())
     }
 
     // No entries again.
     pub fn clear(&mut self)
         ensures after { held self.new ≡ [] }
-        ensures room { room self.new ≡ room self.old }
-        ensures same { self.new.places.ghost_name ≡ self.old.places.ghost_name }
+        ensures kept { Kept self.old self.new }
     {
         self.count = 0;
     }

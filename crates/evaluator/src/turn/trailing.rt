@@ -41,7 +41,7 @@ impl<M: Mail> Turn<'_, M> {
         if last_change(earlier, change.piece, change.number).is_some() {
             return Err(Why::Clash);
         }
-        trails.changes.push(change);
+        let _ = trails.changes.push(change);
         Ok(())
     }
 
@@ -70,7 +70,7 @@ impl<M: Mail> Turn<'_, M> {
         if self.left(parcel.piece) + own == M::LIMIT {
             return Err(Why::TrayFull);
         }
-        trails.parcels.push(parcel);
+        let _ = trails.parcels.push(parcel);
         Ok(())
     }
 }
