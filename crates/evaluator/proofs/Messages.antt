@@ -1,5 +1,6 @@
 -- A message, by how many numbers its signal has.
 use Rattle.std.proofs.Common.{◌≡◌, ℕ, zero, suc, ◌+◌, ◌≤◌, true, List, [], ◌∷◌, ◌++◌, length, get_or, drop, ℤ, Some, None, Ok, Err, Result, sym, refl, ap, ◌∙◌, subst, arith, length-append}
+use Rattle.std.specs.Option.{unwrap_or}
 use Rattle.mail.specs.declared.message.Message.{Message}
 use Rattle.level.specs.declared.store.Level.{Level}
 use Rattle.level.specs.Law.{Bytes}
@@ -19,23 +20,14 @@ use Rattle.evaluator.proofs.Following.{follow_follow, follow_same, valued_bind}
 use Rattle.evaluator.proofs.Reckoned.{V, inner, after, ends}
 
 -- how many numbers a signal has
-counted_some : (ss : List ℕ) (s n : ℕ) → Some n ≡ nth ss s → n ≡ get_or ss s 0
-counted_some [] s n e = absurd (let z : ◌≡◌ {A = ℕ} 0 1 = cc in omega arith)
-counted_some (x ∷ ss) zero n e = cc
-counted_some (x ∷ ss) (suc s) n e = counted_some ss s n e
+counted : (ss : List ℕ) (s : ℕ) → unwrap_or (nth ss s) 0 ≡ get_or ss s 0
+counted [] s = refl
+counted (x ∷ ss) zero = refl
+counted (x ∷ ss) (suc s) = counted ss s
 
-counted_none : (ss : List ℕ) (s : ℕ) → None ≡ nth ss s → 0 ≡ get_or ss s 0
-counted_none [] s e = refl
-counted_none (x ∷ ss) zero e = absurd (let z : ◌≡◌ {A = ℕ} 0 1 = cc in omega arith)
-counted_none (x ∷ ss) (suc s) e = counted_none ss s e
-
-pub declared_count : (ss : List ℕ) (s n : ℕ) → Some n ≡ signal_parameters ss s → n ≡ parameters ss s
-declared_count ss zero n e = absurd (let z : ◌≡◌ {A = ℕ} 0 1 = cc in omega arith)
-declared_count ss (suc s) n e = counted_some ss s n e
-
-pub undeclared_count : (ss : List ℕ) (s : ℕ) → None ≡ signal_parameters ss s → 0 ≡ parameters ss s
-undeclared_count ss zero e = refl
-undeclared_count ss (suc s) e = counted_none ss s e
+pub parameters_are : (ss : List ℕ) (s : ℕ) → unwrap_or (signal_parameters ss s) 0 ≡ parameters ss s
+parameters_are ss zero = refl
+parameters_are ss (suc s) = counted ss s
 
 few : (ss : List ℕ) (s : ℕ) → Each (λ n. n ≤ 2) ss → get_or ss s 0 ≤ 2
 few [] s h = omega arith

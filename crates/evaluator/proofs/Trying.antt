@@ -1,5 +1,5 @@
 -- Received numbers entered, and guards tried.
-use Rattle.std.proofs.Common.{◌≡◌, ℕ, zero, suc, ◌+◌, ◌<◌, Bool, true, false, cond, ◌&&◌, eqb, List, [], ◌∷◌, ◌++◌, map, length, drop, ℤ, Some, None, Ok, Err, Option, Result, sym, refl, ap, ◌∙◌, arith}
+use Rattle.std.proofs.Common.{◌≡◌, ℕ, zero, suc, ◌+◌, ◌<◌, Bool, true, false, cond, ◌&&◌, eqb, List, [], ◌∷◌, ◌++◌, map, length, get_or, drop, ℤ, Some, None, Ok, Err, Option, Result, sym, refl, ap, ◌∙◌, arith}
 use Rattle.mail.specs.declared.message.Message.{Message}
 use Rattle.level.specs.declared.entry.TransitionEntry.{TransitionEntry}
 use Rattle.level.specs.Entries.{transition_entry}
@@ -20,10 +20,12 @@ use Rattle.rules.specs.Game.{Game}
 use Rattle.rules.specs.Trace.{Own, writes, no_writes, Receipt, receipts, laid_over, bind, halt, evaluate, wants, unwanted}
 use Rattle.evaluator.specs.declared.turn.Turn.{Turn}
 use Rattle.evaluator.specs.Lookup.{last_change}
-use Rattle.evaluator.specs.Meeting.{Around, meet, receiving}
+use Rattle.evaluator.specs.Meeting.{Around, sight_with, meet, receiving}
 use Rattle.evaluator.specs.Reckoning.{board_of, follow, valued, legible}
+use Rattle.evaluator.specs.Rows.{states_of}
+use Rattle.evaluator.specs.Standing.{expression_at}
 use Rattle.evaluator.specs.Trails.{Lists}
-use Rattle.evaluator.specs.Trying.{numbers_of, trial_of, tried, tried_by, wanted, discarded, held_at, trial_sight}
+use Rattle.evaluator.specs.Trying.{numbers_of, trial_of, laid_by, tried, tried_at, wanted, wanted_at, discarded, held_at}
 use Rattle.evaluator.proofs.Following.{follow_follow, follow_same, follow_ok, valued_bind, halted, gone}
 
 -- some receipts after others
@@ -48,6 +50,11 @@ module _ {A B : Type 0} (f : A → B) where
   nth_none [] n e = refl
   nth_none (x ∷ xs) zero e = absurd (let z : ◌≡◌ {A = ℕ} 0 1 = cc in omega arith)
   nth_none (x ∷ xs) (suc n) e = nth_none xs n e
+
+nth_at : {A : Type 0} (xs : List A) (n : ℕ) (d : A) → n < length xs → Some (get_or xs n d) ≡ nth xs n
+nth_at [] n d h = absurd (omega arith)
+nth_at (x ∷ xs) zero d h = refl
+nth_at (x ∷ xs) (suc n) d h = nth_at xs n d (omega arith)
 
 pub nth_below : {A : Type 0} (xs : List A) (n : ℕ) (x : A) → nth xs n ≡ Some x → n < length xs
 nth_below [] n x e = absurd (let z : ◌≡◌ {A = ℕ} 0 1 = cc in omega arith)
@@ -104,63 +111,24 @@ module _ {M : Type 0} (u : Turn M) (cs : List Change) (n : ℕ) (found : Transit
   effect_legible = ap legible effect_read
 
   module _ (m : Message) where
-    abbrev try : Result Bool Why
-    try = tried_by (tried (meaning u.level.now) (board_of u.table.now) u.mover cs m) (nth (placed (meaning u.level.now)) n)
+    laid : (l : List ℕ) → last_change (laid_by u.mover m (nth l 0) (nth l 1)) ≡ laid_over u.mover (receipts l m) no_writes
+    laid [] = refl
+    laid (a ∷ []) = refl
+    laid (a ∷ b ∷ l) = refl
 
-    tried_with : (own : List Change) → last_change own ≡ laid_over u.mover (receipts x.transition.receives m) no_writes
-        → held_at (trial_sight u own cs) found.guard (read_expr deepest 8 (drop found.guard (code u.level.now))) ≡ try
-    tried_with own e =
+    -- tried, and wanted, as the rules say it
+    tried_is : tried_at u cs m found ≡ tried (meaning u.level.now) (board_of u.table.now) u.mover cs m x
+    tried_is =
         let V : Own → ℕ → Result ℤ Why = λ o i. valued cs (evaluate (meaning u.level.now) (board_of u.table.now) u.mover o i x.transition.guard) in
-        ap (held_at (trial_sight u own cs) found.guard) guard_read
-        ∙ follow_follow (V (last_change own) found.guard) (λ v. Ok (v, found.guard + size x.transition.guard)) (λ y. Ok (holds y.0))
-        ∙ ap (λ i. follow (V (last_change own) i) (λ v. Ok (holds v))) guard_there
-        ∙ ap (λ o. follow (V o x.guard) (λ v. Ok (holds v))) e
-        ∙ ap (tried_by (tried (meaning u.level.now) (board_of u.table.now) u.mover cs m)) (sym is_there)
+        ap (held_at (sight_with u cs (laid_by u.mover m found.first found.second)) found.guard) guard_read
+        ∙ follow_follow (V (last_change (laid_by u.mover m found.first found.second)) found.guard) (λ v. Ok (v, found.guard + size x.transition.guard)) (λ y. Ok (holds y.0))
+        ∙ ap (λ e. follow (V (last_change (laid_by u.mover m e.first e.second)) e.guard) (λ v. Ok (holds v))) is_entry
+        ∙ ap (λ o. follow (V o x.guard) (λ v. Ok (holds v))) (laid x.transition.receives)
 
-    laid : (rs : List Receipt) → receipts x.transition.receives m ≡ rs → laid_over u.mover rs no_writes ≡ laid_over u.mover (receipts x.transition.receives m) no_writes
-    laid rs e = ap (λ l. laid_over u.mover l no_writes) (sym e)
-
-    by_two : (a b : Option ℕ) → found.first ≡ a → found.second ≡ b → receipts x.transition.receives m ≡ numbers_of a m.first ++ numbers_of b m.second
-    by_two a b e f = receipts_are x.transition.receives m
-        ∙ ap (λ k. numbers_of k m.first ++ numbers_of (nth x.transition.receives 1) m.second) (sym (ap (λ z. z.first) is_entry) ∙ e)
-        ∙ ap (λ k. numbers_of a m.first ++ numbers_of k m.second) (sym (ap (λ z. z.second) is_entry) ∙ f)
-
-    none_first : (l : List ℕ) → nth l 0 ≡ None → receipts l m ≡ []
-    none_first [] e = refl
-    none_first (a ∷ l) e = absurd (let y : ◌≡◌ {A = ℕ} 0 1 = cc in omega arith)
-
-    pub tried_two : (a b : ℕ) → found.first ≡ Some a → found.second ≡ Some b
-        → held_at (trial_sight u (record { piece = u.mover; number = a; value = m.first } ∷ record { piece = u.mover; number = b; value = m.second } ∷ []) cs) found.guard (read_expr deepest 8 (drop found.guard (code u.level.now))) ≡ try
-    tried_two a b e f = tried_with (record { piece = u.mover; number = a; value = m.first } ∷ record { piece = u.mover; number = b; value = m.second } ∷ []) (laid _ (by_two (Some a) (Some b) e f))
-
-    pub tried_one : (a : ℕ) → found.first ≡ Some a → found.second ≡ None
-        → held_at (trial_sight u (record { piece = u.mover; number = a; value = m.first } ∷ []) cs) found.guard (read_expr deepest 8 (drop found.guard (code u.level.now))) ≡ try
-    tried_one a e f = tried_with (record { piece = u.mover; number = a; value = m.first } ∷ []) (laid _ (by_two (Some a) None e f))
-
-    pub tried_none : found.first ≡ None → held_at (trial_sight u [] cs) found.guard (read_expr deepest 8 (drop found.guard (code u.level.now))) ≡ try
-    tried_none e = tried_with [] (laid [] (none_first x.transition.receives (sym (ap (λ z. z.first) is_entry) ∙ e)))
-
-    -- a transition that wants the message, and one that does not
-    module _ (k s : ℕ) where
-      abbrev want : Result Bool Why
-      want = tried_by (wanted (meaning u.level.now) (board_of u.table.now) u.mover cs k s m) (nth (placed (meaning u.level.now)) n)
-
-      abbrev test : Bool
-      test = eqb found.kind k && (eqb found.source s && eqb found.signal m.signal)
-
-      same_test : test ≡ wants (meaning u.level.now) (board_of u.table.now) u.mover k s m x
-      same_test = ap (λ e. eqb e.kind k && (eqb e.source s && eqb e.signal m.signal)) is_entry
-
-      at_x : want ≡ cond test (tried (meaning u.level.now) (board_of u.table.now) u.mover cs m x) (Ok false)
-      at_x = ap (tried_by (wanted (meaning u.level.now) (board_of u.table.now) u.mover cs k s m)) is_there
-          ∙ ap (λ b. cond b (tried (meaning u.level.now) (board_of u.table.now) u.mover cs m x) (Ok false)) (sym same_test)
-
-      pub passed_by : test ≡ false → Ok false ≡ want
-      passed_by e = sym (at_x ∙ ap (λ b. cond b (tried (meaning u.level.now) (board_of u.table.now) u.mover cs m x) (Ok false)) e)
-
-      pub tried_then : test ≡ true → try ≡ want
-      tried_then e = ap (tried_by (tried (meaning u.level.now) (board_of u.table.now) u.mover cs m)) is_there
-          ∙ sym (at_x ∙ ap (λ b. cond b (tried (meaning u.level.now) (board_of u.table.now) u.mover cs m x) (Ok false)) e)
+    wanted_is : (k : ℕ) → wanted_at u cs k m found ≡ wanted (meaning u.level.now) (board_of u.table.now) u.mover cs k (states_of u.table.now u.mover) m x
+    wanted_is k =
+        ap (λ e. cond (eqb e.kind k && (eqb e.source (states_of u.table.now u.mover) && eqb e.signal m.signal)) (tried_at u cs m found) (Ok false)) is_entry
+        ∙ ap (λ r. cond (wants (meaning u.level.now) (board_of u.table.now) u.mover k (states_of u.table.now u.mover) m x) r (Ok false)) tried_is
 
 -- a discard, transition by transition
 module _ (L : syntax.Level) (b : Game) (p : ℕ) (E : List Change) (k s : ℕ) (m : Message) where
@@ -203,22 +171,36 @@ module _ (L : syntax.Level) (b : Game) (p : ℕ) (E : List Change) (k s : ℕ) (
   drop_none (y ∷ xs) zero e = absurd (let z : ◌≡◌ {A = ℕ} 0 1 = cc in omega arith)
   drop_none (y ∷ xs) (suc n) e = drop_none xs n e
 
-  module _ (n : ℕ) (x : Placed) (e : nth (placed L) n ≡ Some x) where
-    next : from n ≡ follow (tried_by (wanted L b p E k s m) (nth (placed L) n)) (λ z. cond z (Err Guard) (from (n + 1)))
-    next = ap rest (drop_nth (placed L) n x e) ∙ one_more x (drop (n + 1) (placed L)) ∙ ap (λ o. follow (tried_by (wanted L b p E k s m) o) (λ z. cond z (Err Guard) (from (n + 1)))) (sym e)
-
-    pub from_halts : (w : Why) → Err w ≡ tried_by (wanted L b p E k s m) (nth (placed L) n) → Err w ≡ from n
-    from_halts w f = halted _ _ _ next w f
-
-    pub from_refused : Ok true ≡ tried_by (wanted L b p E k s m) (nth (placed L) n) → Err Guard ≡ from n
-    from_refused f = sym (gone _ _ _ next true f)
-
-    pub from_on : Ok false ≡ tried_by (wanted L b p E k s m) (nth (placed L) n) → from (n + 1) ≡ from n
-    from_on f = sym (gone _ _ _ next false f)
+  next : (n : ℕ) (x : Placed) → nth (placed L) n ≡ Some x → from n ≡ follow (wanted L b p E k s m x) (λ z. cond z (Err Guard) (from (n + 1)))
+  next n x e = ap rest (drop_nth (placed L) n x e) ∙ one_more x (drop (n + 1) (placed L))
 
   pub from_end : (n : ℕ) → nth (placed L) n ≡ None → Ok tt ≡ from n
   from_end n e = sym (ap rest (drop_none (placed L) n e))
 
--- where there is no transition of a number, nothing is tried
-pub no_trial : (f : Placed → Result Bool Why) (o : Option Placed) → o ≡ None → Ok false ≡ tried_by f o
-no_trial f o e = sym (ap (tried_by f) e)
+-- the transitions that a discard tries, one after the other
+module _ {M : Type 0} (u : Turn M) (cs : List Change) (k : ℕ) (m : Message) (es : List TransitionEntry) (are : es ≡ map transition_entry (placed (meaning u.level.now)))
+    (d : TransitionEntry) (n : ℕ) (below : n < length es) where
+  abbrev found : TransitionEntry
+  found = get_or es n d
+
+  there : Some found ≡ nth (map transition_entry (placed (meaning u.level.now))) n
+  there = nth_at es n d below ∙ ap (λ l. nth l n) are
+
+  abbrev left : ℕ → Result (Unit {0}) Why
+  left i = from (meaning u.level.now) (board_of u.table.now) u.mover cs k (states_of u.table.now u.mover) m i
+
+  tries : left n ≡ follow (wanted_at u cs k m found) (λ z. cond z (Err Guard) (left (n + 1)))
+  tries = next (meaning u.level.now) (board_of u.table.now) u.mover cs k (states_of u.table.now u.mover) m n (x u cs n found there) (is_there u cs n found there)
+      ∙ ap (λ r. follow r (λ z. cond z (Err Guard) (left (n + 1)))) (sym (wanted_is u cs n found there m k))
+
+  pub try_legible : legible (expression_at u.level.now deepest found.guard) ≡ true
+  try_legible = guard_legible u cs n found there
+
+  pub try_halts : (w : Why) → Err w ≡ wanted_at u cs k m found → Err w ≡ left n
+  try_halts w h = halted _ _ _ tries w h
+
+  pub try_refuses : Ok true ≡ wanted_at u cs k m found → Err Guard ≡ left n
+  try_refuses h = sym (gone _ _ _ tries true h)
+
+  pub try_passes : Ok false ≡ wanted_at u cs k m found → left (n + 1) ≡ left n
+  try_passes h = sym (gone _ _ _ tries false h)

@@ -41,16 +41,20 @@ send_to left limit mark n ps c =
 abbrev pub left_of : {M : Type 0} → (M → Trays) → Turn M → ℕ → ℕ
 left_of trays t q = length (trays t.mail.now q) - cond (took_in t.listed.now q) 1 0
 
--- what a move sees, with these entries among the changes
-abbrev pub sight_of : {M : Type 0} → Turn M → List Change → Sight
-sight_of t cs = record {
+-- what a move sees, with changes of earlier moves and its own
+abbrev pub sight_with : {M : Type 0} → Turn M → List Change → List Change → Sight
+sight_with t earlier own = record {
   level = meaning t.level.now;
   code = code t.level.now;
   board = board_of t.table.now;
-  earlier = take t.written cs;
-  own = drop t.written cs;
+  earlier = earlier;
+  own = own;
   mover = t.mover;
 }
+
+-- with these entries among the changes
+abbrev pub sight_of : {M : Type 0} → Turn M → List Change → Sight
+sight_of t cs = sight_with t (take t.written cs) (drop t.written cs)
 
 -- an answer with what the trails hold after it: a refusal says nothing of the trails
 abbrev pub with_lists : {A : Type 0} → Result A Why → Lists → Result (Lists × A) Why
@@ -145,11 +149,6 @@ module _ (A : Around) where
   abbrev pub transiting_by : Lists → Option Placed → Option Message → Result Lists Why
   transiting_by t None m = Err Unknown
   transiting_by t (Some x) m = transiting t x m
-
--- the numbers of a message as changes of the piece that receives them
-abbrev pub received_by : ℕ → List Receipt → List Change
-received_by p [] = []
-received_by p (r ∷ rs) = record { piece = p; number = r.into; value = r.value } ∷ received_by p rs
 
 -- the message of a signal, with the values of the expressions that stand at a place, and the place after them
 abbrev pub message_at : Sight → ℕ → ℕ → Read (List Expr) → Result (Message × ℕ) Why

@@ -20,23 +20,17 @@ use rules::trail::{Change, Parcel};
 fn parameters(level: &Level, signal: u8) -> u8
     ensures { result ≡ parameters (meaning level.now).signals signal }
 {
-    match level.parameters(signal as usize) {
-        Some(count) => count,
-        None => 0,
-    }
+    level.parameters(signal as usize).unwrap_or(0)
 }
 
 // The piece that a command at this place names, or the stumble where there is none.
 fn there(named: Option<u8>, place: usize) -> Result<u8, Stumble>
     ensures { result ≡ there named place }
 {
-    match named {
-        Some(piece) => Ok(piece),
-        None => Err(Stumble {
-            cause: Cause::Missing,
-            place,
-        }),
-    }
+    named.ok_or(Stumble {
+        cause: Cause::Missing,
+        place,
+    })
 }
 
 impl<M: Mail> Turn<'_, M> {
@@ -45,39 +39,26 @@ impl<M: Mail> Turn<'_, M> {
         requires { legible (expressions_at self.now.level.now signal at) ≡ true }
         ensures { result ≡ message_at (sight_of self.now (held trails.now.changes)) signal at (expressions_at self.now.level.now signal at) }
     {
-        match parameters(self.level, signal) {
-            0 => Ok((
-                Message {
-                    signal,
-                    first: 0,
-                    second: 0,
-                },
-                at,
-            )),
+        let (first, second, next) = match parameters(self.level, signal) {
+            0 => (0, 0, at),
             1 => {
                 let (first, next) = self.expression(at, trails)?;
-                Ok((
-                    Message {
-                        signal,
-                        first,
-                        second: 0,
-                    },
-                    next,
-                ))
+                (first, 0, next)
             }
             _ => {
                 let (first, middle) = self.expression(at, trails)?;
                 let (second, next) = self.expression(middle, trails)?;
-                Ok((
-                    Message {
-                        signal,
-                        first,
-                        second,
-                    },
-                    next,
-                ))
+                (first, second, next)
             }
-        }
+        };
+        Ok((
+            Message {
+                signal,
+                first,
+                second,
+            },
+            next,
+        ))
     }
 
     // An own number becomes a value. Like the two after it, this carries out the statement at a place, and answers the place after it.

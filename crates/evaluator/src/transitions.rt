@@ -1,22 +1,20 @@
 // A move's evaluation: that of a transition, and that of a discard.
-ghost use Rattle.std.specs.Prelude.{◌≡◌, true, ◌&&◌, map, Some, ◌==◌};
-ghost use Rattle.level.specs.Entries.{transition_entry};
+ghost use Rattle.std.specs.Prelude.{◌≡◌, true, ◌&&◌, ◌==◌};
 ghost use Rattle.level.specs.Levels.{meaning};
 ghost use Rattle.level.specs.Places.{placed};
 ghost use Rattle.level.specs.Sound.{deepest};
 ghost use Rattle.level.specs.Tables.{nth};
 ghost use Rattle.rules.specs.Trace.{unwanted};
-ghost use Rattle.evaluator.specs.Meeting.{around, lists_or, receiving, transiting_by};
+ghost use Rattle.evaluator.specs.Meeting.{around, lists_or, receiving, sight_with, transiting_by};
 ghost use Rattle.evaluator.specs.Reckoning.{board_of, legible};
 ghost use Rattle.evaluator.specs.Trails.{KeptBoth, held, lists, places};
 ghost use Rattle.evaluator.specs.Standing.{expression_at};
 ghost use Rattle.evaluator.specs.Rows.{states_of};
-ghost use Rattle.evaluator.specs.Trying.{discarded, held_at, numbers_of, tried, tried_by, trial_of, trial_sight, wanted};
+ghost use Rattle.evaluator.specs.Trying.{discarded, held_at, numbers_of, trial_of, tried_at, wanted_at};
 
 use crate::arithmetic::holds;
 use crate::trail::Trails;
 use crate::turn::Turn;
-use crate::view::View;
 use level::entry::TransitionEntry;
 use mail::Mail;
 use mail::message::Message;
@@ -69,20 +67,14 @@ impl<M: Mail> Turn<'_, M> {
     // Whether the guard at a place holds, with these changes as the move's own and all in the trail as earlier ones.
     fn trial(&self, at: usize, own: &[Change], trails: &Trails) -> Result<bool, Why>
         requires { legible (expression_at self.now.level.now deepest at) ≡ true }
-        ensures { result ≡ held_at (trial_sight self.now own.now (held trails.now.changes)) at (expression_at self.now.level.now deepest at) }
+        ensures { result ≡ held_at (sight_with self.now (held trails.now.changes) own.now) at (expression_at self.now.level.now deepest at) }
     {
-        let view = View {
-            level: self.level,
-            table: self.table,
-            earlier: trails.changes.entries(),
-            own,
-            mover: self.mover,
-        };
+        let view = self.view(trails.changes.entries(), own);
         let (value, _) = view.expression(at)?;
         Ok(holds(value))
     }
 
-    // Whether a number of the message makes a change, on trial.
+    // A number of the mover that receives a value, as a change.
     fn laid(&self, number: u8, value: i32) -> Change
         ensures { result ≡ record { piece = self.now.mover; number = number; value = value } }
     {
@@ -93,48 +85,43 @@ impl<M: Mail> Turn<'_, M> {
         }
     }
 
-    // Whether the transition of a number, which wants the message, has a true guard. The numbers that it would receive are laid over
-    // for the trial only.
-    fn tried(&self, number: usize, message: Message, trails: &Trails) -> Result<bool, Why>
-        ensures { result ≡ tried_by (tried (meaning self.now.level.now) (board_of self.now.table.now) self.now.mover (held trails.now.changes) message) (nth (placed (meaning self.now.level.now)) number) }
+    // Whether a transition, which wants the message, has a true guard. The numbers that it would receive are laid over for the trial
+    // only. A second is never without a first.
+    fn tried(&self, found: TransitionEntry, message: Message, trails: &Trails) -> Result<bool, Why>
+        requires { legible (expression_at self.now.level.now deepest found.guard) ≡ true }
+        ensures { result ≡ tried_at self.now (held trails.now.changes) message found }
     {
-        let Some(found) = self.level.transition(number) else {
-            return Ok(false);
-        };
-        match found.first {
-            None => self.trial(found.guard, &[], trails),
-            Some(first) => match found.second {
-                None => {
-                    let own = [self.laid(first, message.first)];
-                    self.trial(found.guard, &own, trails)
-                }
-                Some(second) => {
-                    let own = [
-                        self.laid(first, message.first),
-                        self.laid(second, message.second),
-                    ];
-                    self.trial(found.guard, &own, trails)
-                }
-            },
+        match (found.first, found.second) {
+            (Some(first), Some(second)) => {
+                let own = [
+                    self.laid(first, message.first),
+                    self.laid(second, message.second),
+                ];
+                self.trial(found.guard, &own, trails)
+            }
+            (Some(first), None) => {
+                let own = [self.laid(first, message.first)];
+                self.trial(found.guard, &own, trails)
+            }
+            (None, _) => self.trial(found.guard, &[], trails),
         }
     }
 
-    // Whether the transition of a number is one of this kind that wants the message in this state, and has a true guard.
+    // Whether a transition is one of this kind that wants the message in the mover's state, and has a true guard.
     fn wanted(
         &self,
-        number: usize,
         found: TransitionEntry,
         kind: u8,
         message: Message,
         trails: &Trails,
     ) -> Result<bool, Why>
-        requires { Some found ≡ nth (map transition_entry (placed (meaning self.now.level.now))) number }
-        ensures { result ≡ tried_by (wanted (meaning self.now.level.now) (board_of self.now.table.now) self.now.mover (held trails.now.changes) kind (states_of self.now.table.now self.now.mover) message) (nth (placed (meaning self.now.level.now)) number) }
+        requires { legible (expression_at self.now.level.now deepest found.guard) ≡ true }
+        ensures { result ≡ wanted_at self.now (held trails.now.changes) kind message found }
     {
         if !wants(found, kind, self.table.state(self.mover), message) {
             return Ok(false);
         }
-        self.tried(number, message, trails)
+        self.tried(found, message, trails)
     }
 
     // A discard by a piece of this kind: refused where a transition that wants the message has a true guard, each tried in level
@@ -142,12 +129,10 @@ impl<M: Mail> Turn<'_, M> {
     pub fn discard(&self, kind: u8, message: Message, trails: &Trails) -> Result<(), Why>
         ensures { result ≡ discarded (held trails.now.changes) (unwanted (meaning self.now.level.now) (board_of self.now.table.now) self.now.mover kind (states_of self.now.table.now self.now.mover) message (placed (meaning self.now.level.now))) }
     {
-        let mut number = 0;
-        while let Some(found) = self.level.transition(number) {
-            if self.wanted(number, found, kind, message, trails)? {
+        for found in self.level.transitions() {
+            if self.wanted(*found, kind, message, trails)? {
                 return Err(Why::Guard);
             }
-            number += 1;
         }
         Ok(())
     }

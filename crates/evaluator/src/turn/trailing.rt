@@ -2,8 +2,8 @@
 ghost use Rattle.std.specs.Prelude.{◌≡◌, ◌≤◌, true};
 ghost use Rattle.level.specs.Sound.{deepest};
 ghost use Rattle.rules.specs.Trace.{sends, writes};
-ghost use Rattle.evaluator.specs.Meeting.{around, left_of, lists_or, meet, sight_of};
-ghost use Rattle.evaluator.specs.Reckoning.{legible, value_at};
+ghost use Rattle.evaluator.specs.Meeting.{around, left_of, lists_or, meet, sight_of, sight_with};
+ghost use Rattle.evaluator.specs.Reckoning.{legible, sight, value_at};
 ghost use Rattle.evaluator.specs.Standing.{expression_at};
 ghost use Rattle.evaluator.specs.Trails.{KeptBoth, held, lists, places};
 
@@ -16,19 +16,27 @@ use rules::fault::Why;
 use rules::trail::{Change, Parcel};
 
 impl<M: Mail> Turn<'_, M> {
+    // What this move's code sees, with these changes as those of earlier moves and these as its own.
+    pub(crate) fn view<'v>(&'v self, earlier: &'v [Change], own: &'v [Change]) -> View<'v>
+        ensures { sight result ≡ sight_with self.now earlier.now own.now }
+    {
+        View {
+            level: self.level,
+            table: self.table,
+            earlier,
+            own,
+            mover: self.mover,
+        }
+    }
+
     // The value of the expression at a place, and the place after it.
     pub(crate) fn expression(&self, at: usize, trails: &Trails) -> Result<(i32, usize), Why>
         requires { legible (expression_at self.now.level.now deepest at) ≡ true }
         ensures { result ≡ value_at (sight_of self.now (held trails.now.changes)) at (expression_at self.now.level.now deepest at) }
     {
-        let view = View {
-            level: self.level,
-            table: self.table,
-            earlier: trails.changes.before(self.written),
-            own: trails.changes.since(self.written),
-            mover: self.mover,
-        };
-        view.expression(at)
+        let earlier = trails.changes.before(self.written);
+        let own = trails.changes.since(self.written);
+        self.view(earlier, own).expression(at)
     }
 
     // A change more, unless an earlier move has written the cell. Full trails hold what any beat writes, so that there is a place.
@@ -50,11 +58,8 @@ impl<M: Mail> Turn<'_, M> {
         ensures answer { result ≡ left_of M.Mail.trays self.now piece }
         ensures few { result ≤ 8 }
     {
-        let waiting = self.mail.count(piece);
-        if self.listed.has_taken(piece) {
-            return waiting.saturating_sub(1);
-        }
-        waiting
+        let taken = self.listed.has_taken(piece) as usize;
+        self.mail.count(piece).saturating_sub(taken)
     }
 
     // A parcel more, unless an earlier move has sent to the piece or its tray is full.
