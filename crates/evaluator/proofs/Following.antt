@@ -1,5 +1,5 @@
 -- Traces one after the other, for one who sees the changes of earlier moves.
-use Rattle.std.proofs.Common.{◌≡◌, Bool, true, false, cond, List, [], ◌∷◌, ◌++◌, is_some, Ok, Err, Result, sym, refl, ap, ◌∙◌}
+use Rattle.std.proofs.Common.{◌≡◌, Bool, true, false, cond, List, [], ◌∷◌, ◌++◌, is_some, Ok, Err, Result, IsErrAnd, sym, refl, ap, ◌∙◌}
 use Rattle.rules.specs.declared.fault.Why.{Why}
 use Rattle.rules.specs.declared.fault.Why.TheVariants.{Clash}
 use Rattle.rules.specs.declared.trail.Change.{Change}
@@ -18,6 +18,11 @@ follow_same (Err f) j k h = refl
 pub follow_ok : {A F : Type 0} (r : Result A F) → follow r (λ x. Ok x) ≡ r
 follow_ok (Ok x) = refl
 follow_ok (Err f) = refl
+
+-- the answer of a `?` that passes a refusal on
+pub passed_on : {A F : Type 0} (r : Result A F) (f : F) → IsErrAnd r (λ g. g ≡ f) → r ≡ Err f
+passed_on (Ok x) f h = absurd h
+passed_on (Err g) f h = ap Err h
 
 module _ {A B : Type 0} (E : List Change) (k : A → Trace B) where
   clear_onward : (es : List Event) (o : Result A Why) → clear_of E (onward es o k).events (onward es o k).out ≡ follow (clear_of E es o) (λ x. valued E (k x))

@@ -2,7 +2,6 @@
 use Rattle.std.proofs.Common.{◌≡◌, ℕ, ◌+◌, ◌<◌, ◌≤◌, true, List, [], ◌∷◌, length, get_or, take, drop, ℤ, Some, None, Ok, Err, Option, Result, IsErrAnd, sym, refl, ap, ◌∙◌, subst, ⊎_elim, arith, length-append, length-drop}
 use Rattle.std.proofs.lemmas.List.{get_or-drop, drop-drop}
 use Rattle.std.proofs.lemmas.Bool.{cases_lt}
-use Rattle.std.proofs.lemmas.Result.{err_from_is_err_and}
 use Rattle.mail.specs.declared.message.Message.{Message}
 use Rattle.mail.specs.Trays.{Trays}
 use Rattle.level.specs.Law.{Bytes}
@@ -27,7 +26,7 @@ use Rattle.evaluator.specs.Meeting.{Around, around, sight_of, meet, met, own_in,
 use Rattle.evaluator.specs.Reckoning.{Sight, follow, valued, legible, value_at}
 use Rattle.evaluator.specs.Standing.{expression_at, expressions_at, statement_at}
 use Rattle.evaluator.specs.Trails.{Lists, lists, places}
-use Rattle.evaluator.proofs.Following.{follow_follow, follow_same, halted, gone}
+use Rattle.evaluator.proofs.Following.{follow_follow, follow_same, passed_on, halted, gone}
 use Rattle.evaluator.proofs.Meeting.{value_met, values_met}
 use Rattle.evaluator.proofs.Reckoned.{not_bad, V, after, ends}
 
@@ -371,9 +370,6 @@ module _ {M : Type 0} (trays : M → Trays) (limit : ℕ) (u : Turn M) (lent : T
       no_stmt n = not_bad Q _ _ (stmt_none A.level.signals 8 bs one (λ l u. n (rw (← first _ refl) l) (rw (← first _ refl) u))) h
 
 -- a refusal that is passed on says nothing of the trails
-pub passed_on : {X : Type 0} (r : Result X Why) (w : Why) → IsErrAnd r (λ v. v ≡ w) → r ≡ Err w
-passed_on r w h = let p = err_from_is_err_and r h in p.1 ∙ ap Err p.2
-
 pub refused_with : {X : Type 0} (r : Result X Why) (t : Lists) (x : Result (Lists × X) Why) (w : Why) → IsErrAnd r (λ v. v ≡ w) → Err w ≡ x → with_lists r t ≡ x
 refused_with r t x w h f = ap (λ z. with_lists z t) (passed_on r w h) ∙ f
 

@@ -15,7 +15,7 @@ pub fn holds(value: i32) -> bool
 pub fn truth(value: bool) -> i32
     ensures { result ≡ truth value }
 {
-    if value { 1 } else { 0 }
+    i32::from(value)
 }
 
 // Only -2147483648 by -1 wraps.

@@ -37,13 +37,13 @@ impl View<'_> {
     fn read(&self, piece: u8, number: u8) -> Result<i32, Halt>
         ensures { result ≡ cell_value (sight self.now) piece number }
     {
-        match last_change(self.own, piece, number) {
-            Some(value) => Ok(value),
-            None => match last_change(self.earlier, piece, number) {
-                Some(_) => Err(Halt::Clash),
-                None => Ok(self.table.number(piece, number as usize)),
-            },
+        if let Some(value) = last_change(self.own, piece, number) {
+            return Ok(value);
         }
+        if last_change(self.earlier, piece, number).is_some() {
+            return Err(Halt::Clash);
+        }
+        Ok(self.table.number(piece, number as usize))
     }
 
     // The value of the expression at a place, which moves past it; at a stumble, to the command that met it.
@@ -60,7 +60,7 @@ impl View<'_> {
             }
             0x11 => {
                 *at = here + 1;
-                Ok(self.mover as i32)
+                Ok(i32::from(self.mover))
             }
             0x12 => {
                 *at = here + 2;
@@ -70,25 +70,21 @@ impl View<'_> {
                 let number = code[here + 1];
                 *at = here + 2;
                 let named = self.nested(at, depth - 1)?;
-                match cell_named(self.level, named, number) {
-                    Some(piece) => self.read(piece, number),
-                    None => {
-                        *at = here;
-                        Err(Halt::Stumbles(Cause::Missing))
-                    }
-                }
+                let Some(piece) = cell_named(self.level, named, number) else {
+                    *at = here;
+                    return Err(Halt::Stumbles(Cause::Missing));
+                };
+                self.read(piece, number)
             }
             0x14..=0x1C => {
                 *at = here + 1;
                 let left = self.nested(at, depth - 1)?;
                 let right = self.nested(at, depth - 1)?;
-                match computed(code[here], left, right) {
-                    Some(value) => Ok(value),
-                    None => {
-                        *at = here;
-                        Err(Halt::Stumbles(Cause::ZeroDivisor))
-                    }
-                }
+                let Some(value) = computed(code[here], left, right) else {
+                    *at = here;
+                    return Err(Halt::Stumbles(Cause::ZeroDivisor));
+                };
+                Ok(value)
             }
             0x1D => {
                 *at = here + 1;

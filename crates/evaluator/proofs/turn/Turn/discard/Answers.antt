@@ -1,6 +1,6 @@
 use Rattle.std.proofs.Common.{Ok, sym, ap, ◌∙◌}
 use Rattle.evaluator.specs.Trails.{held}
-use Rattle.evaluator.proofs.Stated.{passed_on}
+use Rattle.evaluator.proofs.Following.{passed_on}
 use Rattle.evaluator.proofs.Trying.{try_legible, try_halts, try_refuses, try_passes}
 use Rattle.evaluator.proofs.turn.Turn.discard.Goals as goal
 

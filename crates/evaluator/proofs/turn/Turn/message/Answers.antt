@@ -3,7 +3,7 @@ use Rattle.level.proofs.Legible.{bytes_from}
 use Rattle.evaluator.specs.Meeting.{sight_of}
 use Rattle.evaluator.specs.Trails.{held}
 use Rattle.evaluator.proofs.Messages.{two_at_most, none_told, one_halts, one_told, first_halts, second_reads, second_halts, two_told}
-use Rattle.evaluator.proofs.Stated.{passed_on}
+use Rattle.evaluator.proofs.Following.{passed_on}
 use Rattle.evaluator.proofs.turn.Turn.message.Goals.{in-0, in-1+in_ok-first-in-1, in_default+in_ok-first-in_default+in_ok-second-in_default}
 use Rattle.evaluator.proofs.turn.Turn.message.Goals as goal
 
@@ -34,8 +34,8 @@ returns g c =
     let t = two_at_most c.args.self.now.level.now c.args.signal in
     let p = c.parameters.ensures in
     elim c.match-parameters.branch [
-      in-0 w ↦ let k = none_told (sight_of c.args.self.now (held c.args.trails.now.changes)) (bytes_from c.args.self.now.level.now) c.args.signal c.args.at _ c.requires (sym p ∙ w.in-0.is) in search (rules, k, w.first-is)
-    | in-1+in_ok-first-in-1 w ↦ let k = one_told (sight_of c.args.self.now (held c.args.trails.now.changes)) (bytes_from c.args.self.now.level.now) c.args.signal c.args.at _ c.requires (sym p ∙ w.in-1.is) w.in_ok-first-in-1.first w.in_ok-first-in-1.next w.in_ok-first-in-1.ensures in search (rules, k, w.first-is)
-    | in_default+in_ok-first-in_default+in_ok-second-in_default w ↦
-      let k = two_told (sight_of c.args.self.now (held c.args.trails.now.changes)) (bytes_from c.args.self.now.level.now) c.args.signal c.args.at _ c.requires (omega arith) w.in_ok-first-in_default.first w.in_ok-first-in_default.middle w.in_ok-first-in_default.ensures w.in_ok-second-in_default.second w.in_ok-second-in_default.next w.in_ok-second-in_default.ensures in search (rules, k, w.first-is)
+      | in-0 w ↦ let k = none_told (sight_of c.args.self.now (held c.args.trails.now.changes)) (bytes_from c.args.self.now.level.now) c.args.signal c.args.at _ c.requires (sym p ∙ w.in-0.is) in search (rules, k, w.first-is)
+      | in-1+in_ok-first-in-1 w ↦ let k = one_told (sight_of c.args.self.now (held c.args.trails.now.changes)) (bytes_from c.args.self.now.level.now) c.args.signal c.args.at _ c.requires (sym p ∙ w.in-1.is) w.in_ok-first-in-1.first w.in_ok-first-in-1.next w.in_ok-first-in-1.ensures in search (rules, k, w.first-is)
+      | in_default+in_ok-first-in_default+in_ok-second-in_default w ↦
+          let k = two_told (sight_of c.args.self.now (held c.args.trails.now.changes)) (bytes_from c.args.self.now.level.now) c.args.signal c.args.at _ c.requires (omega arith) w.in_ok-first-in_default.first w.in_ok-first-in_default.middle w.in_ok-first-in_default.ensures w.in_ok-second-in_default.second w.in_ok-second-in_default.next w.in_ok-second-in_default.ensures in search (rules, k, w.first-is)
     ]

@@ -1,18 +1,9 @@
 use Rattle.std.proofs.Common.{Some, None, ap, ◌∙◌, arith, w32, SFits, rules}
-use Rattle.std.proofs.lemmas.Result.{err_from_is_err_and}
 use Rattle.std.proofs.lemmas.Int.{to_z-of_z}
 use Rattle.evaluator.specs.Reckoning.{told}
+use Rattle.evaluator.proofs.Following.{passed_on}
 use Rattle.evaluator.proofs.Reckoned.{here, deeper, at_constant, at_own_piece, at_own, other_long, other_legible, other_halts, other_told, negation_legible, negation_halts, negation_told, left_reads, left_halts, right_reads, right_halts, both_told, at_none}
 use Rattle.evaluator.proofs.view.View.+nested.Goals as goal
-
-pub bounds-code-here : goal.bounds-code-here
-bounds-code-here t c = here c.args.self.now c.args.depth c.args.at.now c.requires c.code-code.result.now c.code-code.ensures
-
-pub overflow_add-at : goal.overflow_add-at
-overflow_add-at t c = let k = (at_constant c.args.self.now c.args.depth c.args.at.now c.requires c.code-code.result.now c.code-code.ensures c.in-16.is).0 in search rules
-
-pub overflow_add-here : goal.overflow_add-here
-overflow_add-here t c = let k = here c.args.self.now c.args.depth c.args.at.now c.requires c.code-code.result.now c.code-code.ensures in search rules
 
 pub number_at-requires : goal.number_at-requires
 number_at-requires t c = let k = (at_constant c.args.self.now c.args.depth c.args.at.now c.requires c.code-code.result.now c.code-code.ensures c.in-16.is).0 in omega arith
@@ -20,17 +11,8 @@ number_at-requires t c = let k = (at_constant c.args.self.now c.args.depth c.arg
 pub returns-in-16 : goal.returns-in-16
 returns-in-16 t c = let k = (at_constant c.args.self.now c.args.depth c.args.at.now c.requires c.code-code.result.now c.code-code.ensures c.in-16.is).1 in search (rules, k)
 
-pub overflow_add-at-in-17 : goal.overflow_add-at-in-17
-overflow_add-at-in-17 t c = let k = here c.args.self.now c.args.depth c.args.at.now c.requires c.code-code.result.now c.code-code.ensures in search rules
-
 pub returns-in-17 : goal.returns-in-17
 returns-in-17 t c = let k = at_own_piece c.args.self.now c.args.depth c.args.at.now c.requires c.code-code.result.now c.code-code.ensures c.in-17.is in search (rules, k)
-
-pub overflow_add-at-in-18 : goal.overflow_add-at-in-18
-overflow_add-at-in-18 t c = let k = (at_own c.args.self.now c.args.depth c.args.at.now c.requires c.code-code.result.now c.code-code.ensures c.in-18.is).0 in search rules
-
-pub overflow_add-here-in-18 : goal.overflow_add-here-in-18
-overflow_add-here-in-18 t c = let k = here c.args.self.now c.args.depth c.args.at.now c.requires c.code-code.result.now c.code-code.ensures in search rules
 
 pub bounds-code-here-in-18 : goal.bounds-code-here-in-18
 bounds-code-here-in-18 t c = let k = (at_own c.args.self.now c.args.depth c.args.at.now c.requires c.code-code.result.now c.code-code.ensures c.in-18.is).0 in omega arith
@@ -38,45 +20,34 @@ bounds-code-here-in-18 t c = let k = (at_own c.args.self.now c.args.depth c.args
 pub returns-in-18 : goal.returns-in-18
 returns-in-18 t c = let k = (at_own c.args.self.now c.args.depth c.args.at.now c.requires c.code-code.result.now c.code-code.ensures c.in-18.is).1 in search (rules, k)
 
-pub overflow_add-number : goal.overflow_add-number
-overflow_add-number t c = let k = here c.args.self.now c.args.depth c.args.at.now c.requires c.code-code.result.now c.code-code.ensures in search rules
-
 pub bounds-code-here-in-19 : goal.bounds-code-here-in-19
 bounds-code-here-in-19 t c = let k = other_long c.args.self.now c.args.depth c.args.at.now c.requires c.code-code.result.now c.code-code.ensures c.in-19.is in omega arith
-
-pub overflow_add-at-in-19 : goal.overflow_add-at-in-19
-overflow_add-at-in-19 t c = let k = other_long c.args.self.now c.args.depth c.args.at.now c.requires c.code-code.result.now c.code-code.ensures c.in-19.is in search rules
 
 pub nested-requires : goal.nested-requires
 nested-requires t c = let d = deeper c.args.self.now c.args.depth c.args.at.now c.requires c.code-code.result.now c.code-code.ensures in (omega arith, other_legible c.args.self.now c.args.depth c.args.at.now c.requires c.code-code.result.now c.code-code.ensures c.in-19.is)
 
 pub returns-in_err-named-in-19 : goal.returns-in_err-named-in-19
 returns-in_err-named-in-19 t c =
-    let p = err_from_is_err_and c.from_residual.result c.from_residual.ensures.1 in
-    rw (p.1, p.2) (other_halts c.args.self.now c.args.depth c.args.at.now c.requires c.code-code.result.now c.code-code.ensures c.in-19.is _ c.in_err-named-in-19.ensures)
+    rw (passed_on _ _ c.from_residual.ensures.1) (other_halts c.args.self.now c.args.depth c.args.at.now c.requires c.code-code.result.now c.code-code.ensures c.in-19.is _ c.in_err-named-in-19.ensures)
 
 pub returns-in-Some : goal.returns-in-Some
 returns-in-Some t c =
     let f : SFits w32 c.in_ok-named-in-19.named = search rules in
     let n = simp to_z-of_z at c.in-Some.ensures in
-    ap (λ r. told r c.nested.new.at) c.read-in-Some.ensures ∙ other_told c.args.self.now c.args.depth c.args.at.now c.requires c.code-code.result.now c.code-code.ensures c.in-19.is c.in_ok-named-in-19.named _ c.in_ok-named-in-19.ensures (Some c.in-Some.piece) n
+    ap (λ r. told r c.nested.new.at) c.read-in-19.ensures ∙ other_told c.args.self.now c.args.depth c.args.at.now c.requires c.code-code.result.now c.code-code.ensures c.in-19.is c.in_ok-named-in-19.named _ c.in_ok-named-in-19.ensures (Some c.in-Some.piece) n
 
-pub returns-in-None : goal.returns-in-None
-returns-in-None t c =
+pub returns-in_default-cell_named : goal.returns-in_default-cell_named
+returns-in_default-cell_named t c =
     let f : SFits w32 c.in_ok-named-in-19.named = search rules in
-    let n = simp to_z-of_z at c.in-None.ensures in
+    let n = simp to_z-of_z at c.in_default-cell_named.ensures in
     other_told c.args.self.now c.args.depth c.args.at.now c.requires c.code-code.result.now c.code-code.ensures c.in-19.is c.in_ok-named-in-19.named _ c.in_ok-named-in-19.ensures None n
-
-pub overflow_add-at-in-20-to-28 : goal.overflow_add-at-in-20-to-28
-overflow_add-at-in-20-to-28 t c = let k = here c.args.self.now c.args.depth c.args.at.now c.requires c.code-code.result.now c.code-code.ensures in search rules
 
 pub nested-requires-in-20-to-28 : goal.nested-requires-in-20-to-28
 nested-requires-in-20-to-28 t c = let d = deeper c.args.self.now c.args.depth c.args.at.now c.requires c.code-code.result.now c.code-code.ensures in (omega arith, left_reads c.args.self.now c.args.depth c.args.at.now c.requires c.code-code.result.now c.code-code.ensures (omega (arith, c.in-20-to-28)) (omega (arith, c.in-20-to-28)))
 
 pub returns-in_err-left-in-20-to-28 : goal.returns-in_err-left-in-20-to-28
 returns-in_err-left-in-20-to-28 t c =
-    let p = err_from_is_err_and c.from_residual-in_err-left-in-20-to-28.result c.from_residual-in_err-left-in-20-to-28.ensures.1 in
-    rw (p.1, p.2) (left_halts c.args.self.now c.args.depth c.args.at.now c.requires c.code-code.result.now c.code-code.ensures (omega (arith, c.in-20-to-28)) (omega (arith, c.in-20-to-28)) _ c.in_err-left-in-20-to-28.ensures)
+    rw (passed_on _ _ c.from_residual-in_err-left-in-20-to-28.ensures.1) (left_halts c.args.self.now c.args.depth c.args.at.now c.requires c.code-code.result.now c.code-code.ensures (omega (arith, c.in-20-to-28)) (omega (arith, c.in-20-to-28)) _ c.in_err-left-in-20-to-28.ensures)
 
 pub nested-requires-in-20-to-28-2 : goal.nested-requires-in-20-to-28-2
 nested-requires-in-20-to-28-2 t c =
@@ -85,11 +56,7 @@ nested-requires-in-20-to-28-2 t c =
 
 pub returns-in_err-right-in-20-to-28 : goal.returns-in_err-right-in-20-to-28
 returns-in_err-right-in-20-to-28 t c =
-    let p = err_from_is_err_and c.from_residual-in_err-right-in-20-to-28.result c.from_residual-in_err-right-in-20-to-28.ensures.1 in
-    rw (p.1, p.2) (right_halts c.args.self.now c.args.depth c.args.at.now c.requires c.code-code.result.now c.code-code.ensures (omega (arith, c.in-20-to-28)) (omega (arith, c.in-20-to-28)) c.in_ok-left-in-20-to-28.left _ c.in_ok-left-in-20-to-28.ensures _ c.in_err-right-in-20-to-28.ensures)
-
-pub bounds-code-here-in-20-to-28 : goal.bounds-code-here-in-20-to-28
-bounds-code-here-in-20-to-28 t c = here c.args.self.now c.args.depth c.args.at.now c.requires c.code-code.result.now c.code-code.ensures
+    rw (passed_on _ _ c.from_residual-in_err-right-in-20-to-28.ensures.1) (right_halts c.args.self.now c.args.depth c.args.at.now c.requires c.code-code.result.now c.code-code.ensures (omega (arith, c.in-20-to-28)) (omega (arith, c.in-20-to-28)) c.in_ok-left-in-20-to-28.left _ c.in_ok-left-in-20-to-28.ensures _ c.in_err-right-in-20-to-28.ensures)
 
 pub returns-in-Some-computed : goal.returns-in-Some-computed
 returns-in-Some-computed t c =
@@ -99,24 +66,20 @@ returns-in-Some-computed t c =
     let k = both_told c.args.self.now c.args.depth c.args.at.now c.requires c.code-code.result.now c.code-code.ensures (omega (arith, c.in-20-to-28)) (omega (arith, c.in-20-to-28)) c.in_ok-left-in-20-to-28.left _ c.in_ok-left-in-20-to-28.ensures c.in_ok-right-in-20-to-28.right _ c.in_ok-right-in-20-to-28.ensures (Some c.in-Some-computed.value) n in
     search (rules, k)
 
-pub returns-in-None-computed : goal.returns-in-None-computed
-returns-in-None-computed t c =
+pub returns-in_default-computed : goal.returns-in_default-computed
+returns-in_default-computed t c =
     let f : SFits w32 c.in_ok-left-in-20-to-28.left = search rules in
     let g : SFits w32 c.in_ok-right-in-20-to-28.right = search rules in
-    let n = simp to_z-of_z at c.in-None-computed.ensures in
+    let n = simp to_z-of_z at c.in_default-computed.ensures in
     let k = both_told c.args.self.now c.args.depth c.args.at.now c.requires c.code-code.result.now c.code-code.ensures (omega (arith, c.in-20-to-28)) (omega (arith, c.in-20-to-28)) c.in_ok-left-in-20-to-28.left _ c.in_ok-left-in-20-to-28.ensures c.in_ok-right-in-20-to-28.right _ c.in_ok-right-in-20-to-28.ensures None n in
     search (rules, k)
-
-pub overflow_add-at-in-29 : goal.overflow_add-at-in-29
-overflow_add-at-in-29 t c = let k = here c.args.self.now c.args.depth c.args.at.now c.requires c.code-code.result.now c.code-code.ensures in search rules
 
 pub nested-requires-in-29 : goal.nested-requires-in-29
 nested-requires-in-29 t c = let d = deeper c.args.self.now c.args.depth c.args.at.now c.requires c.code-code.result.now c.code-code.ensures in (omega arith, negation_legible c.args.self.now c.args.depth c.args.at.now c.requires c.code-code.result.now c.code-code.ensures c.in-29.is)
 
 pub returns-in_err-value-in-29 : goal.returns-in_err-value-in-29
 returns-in_err-value-in-29 t c =
-    let p = err_from_is_err_and c.from_residual-in_err-value-in-29.result c.from_residual-in_err-value-in-29.ensures.1 in
-    rw (p.1, p.2) (negation_halts c.args.self.now c.args.depth c.args.at.now c.requires c.code-code.result.now c.code-code.ensures c.in-29.is _ c.in_err-value-in-29.ensures)
+    rw (passed_on _ _ c.from_residual-in_err-value-in-29.ensures.1) (negation_halts c.args.self.now c.args.depth c.args.at.now c.requires c.code-code.result.now c.code-code.ensures c.in-29.is _ c.in_err-value-in-29.ensures)
 
 pub returns-in_ok-value-in-29 : goal.returns-in_ok-value-in-29
 returns-in_ok-value-in-29 t c =
