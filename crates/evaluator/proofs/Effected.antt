@@ -1,12 +1,12 @@
 -- What the statements of an effect do to the trails, one after the other.
-use Rattle.std.proofs.Common.{◌≡◌, ℕ, ◌+◌, ◌-◌, ◌<◌, ◌≤◌, true, List, ◌∷◌, length, get_or, drop, Ok, Err, Result, sym, refl, ap, ◌∙◌, subst, ⊎_elim, arith, length-drop}
+use Rattle.std.proofs.Common.{◌≡◌, ℕ, ◌+◌, ◌-◌, ◌<◌, ◌≤◌, true, List, ◌∷◌, length, get_or, drop, Ok, Err, Result, sym, refl, ap, ◌∙◌, subst, ⊎_elim, arith}
 use Rattle.std.proofs.lemmas.List.{drop-drop}
 use Rattle.std.proofs.lemmas.Bool.{cases_lt}
 use Rattle.level.specs.Levels as level
 use Rattle.level.specs.Reading.{Read, got, bad, then, at, read_effect}
 use Rattle.level.specs.Spelling.{statement}
 use Rattle.level.specs.Syntax.{Stmt}
-use Rattle.level.proofs.Arms.{effect_past, effect_none, effect_ends, effect_full, effect_more}
+use Rattle.level.proofs.Arms.{effect_past, effect_none, effect_full, effect_more}
 use Rattle.level.proofs.Legible.{bytes_from, stmt_rest}
 use Rattle.mail.specs.Trays.{Trays}
 use Rattle.rules.specs.declared.fault.Why.{Why}
@@ -40,14 +40,8 @@ module _ {M : Type 0} (trays : M → Trays) (limit : ℕ) (turn : Turn M) (lent 
     a_byte : 1 ≤ length (drop i code)
     a_byte = ⊎_elim (λ k. absurd (not_bad (F n i) _ _ (effect_past A.level.signals 8 (drop i code) n k) h)) (λ k. k) (cases_lt (length (drop i code)) 1)
 
-    pub effect_inside : i < length code
-    effect_inside = let k = a_byte in let l = length-drop i code in omega arith
-
     lead : (b : ℕ) → get_or code i 0 ≡ b → at (drop i code) 0 ≡ b
     lead b e = first trays limit turn lent i b e
-
-    pub effect_end : get_or code i 0 ≡ 0 → Ok t ≡ steps_at A t i (F n i)
-    effect_end e = sym (ap (steps_at A t i) (effect_ends A.level.signals 8 (drop i code) n a_byte (lead 0 e)))
 
     module _ (z : get_or code i 0 ≡ 0 → ⊥) where
       nonzero : at (drop i code) 0 ≡ 0 → ⊥

@@ -15,10 +15,6 @@ pub follow_same : {A B F : Type 0} (r : Result A F) (j k : A → Result B F) →
 follow_same (Ok x) j k h = h x
 follow_same (Err f) j k h = refl
 
-pub follow_ok : {A F : Type 0} (r : Result A F) → follow r (λ x. Ok x) ≡ r
-follow_ok (Ok x) = refl
-follow_ok (Err f) = refl
-
 -- the answer of a `?` that passes a refusal on
 pub passed_on : {A F : Type 0} (r : Result A F) (f : F) → IsErrAnd r (λ g. g ≡ f) → r ≡ Err f
 passed_on (Ok x) f h = absurd h

@@ -57,12 +57,6 @@ module _ (A : Around) where
         ∙ follow_follow (valued (take A.written t.changes) tr) (λ v. Ok (v, t)) (λ (x : X × Lists). met A x.1 (k x.0))
 
   module _ (t : Lists) (L : Level) (g : Game) (p : ℕ) (o : Own) (i : ℕ) where
-    pub evaluate_met : (e : Expr) → met A t (evaluate L g p o i e) ≡ follow (valued (take A.written t.changes) (evaluate L g p o i e)) (λ v. Ok (v, t))
-    evaluate_met e = reading_met t (evaluate L g p o i e) (weight_evaluate 1 1 L g p o i e)
-
-    pub evaluate_all_met : (es : List Expr) → met A t (evaluate_all L g p o i es) ≡ follow (valued (take A.written t.changes) (evaluate_all L g p o i es)) (λ vs. Ok (vs, t))
-    evaluate_all_met es = reading_met t (evaluate_all L g p o i es) (weight_evaluate_all 1 1 L g p o i es)
-
     pub value_met : {Y : Type 0} (e : Expr) (k : ℤ → Trace Y)
         → met A t (bind (evaluate L g p o i e) k) ≡ follow (valued (take A.written t.changes) (evaluate L g p o i e)) (λ v. met A t (k v))
     value_met e k = reading_then t (evaluate L g p o i e) k (weight_evaluate 1 1 L g p o i e)

@@ -1,5 +1,5 @@
 -- A message, by how many numbers its signal has.
-use Rattle.std.proofs.Common.{◌≡◌, ℕ, zero, suc, ◌+◌, ◌≤◌, true, List, [], ◌∷◌, ◌++◌, length, get_or, drop, ℤ, Some, None, Ok, Err, Result, sym, refl, ap, ◌∙◌, subst, arith, length-append}
+use Rattle.std.proofs.Common.{◌≡◌, ℕ, zero, suc, ◌+◌, ◌≤◌, true, List, [], ◌∷◌, ◌++◌, length, get_or, drop, ℤ, Ok, Err, Result, sym, refl, ap, ◌∙◌, subst, arith, length-append}
 use Rattle.std.specs.Option.{unwrap_or}
 use Rattle.mail.specs.declared.message.Message.{Message}
 use Rattle.level.specs.declared.store.Level.{Level}
@@ -148,9 +148,6 @@ module _ (s : Sight) (bytes : (i : ℕ) → Bytes (drop i s.code)) (n i k : ℕ)
     is : told ≡ follow first (one s bytes n i)
     is = ap (λ j. message_at s n i (read_exprs j 8 (drop i s.code))) e ∙ message_one s bytes n i legible_is
 
-    pub one_reads : legible (R s bytes n i i) ≡ true
-    one_reads = one_legible s bytes n i legible_is
-
     pub one_halts : (w : Why) → Err w ≡ first → Err w ≡ told
     one_halts w f = sym (is ∙ ap (λ r. follow r (one s bytes n i)) (sym f))
 
@@ -163,9 +160,6 @@ module _ (s : Sight) (bytes : (i : ℕ) → Bytes (drop i s.code)) (n i k : ℕ)
 
     are : told ≡ follow first (two s bytes n i)
     are = ap (λ j. message_at s n i (read_exprs j 8 (drop i s.code))) e ∙ message_two s bytes n i legible_are
-
-    pub first_reads : legible (R s bytes n i i) ≡ true
-    first_reads = first_legible s bytes n i legible_are
 
     pub first_halts : (w : Why) → Err w ≡ first → Err w ≡ told
     first_halts w f = sym (are ∙ ap (λ r. follow r (two s bytes n i)) (sym f))

@@ -102,10 +102,6 @@ module _ (A : Around) where
   steps_roomy t i (c ∷ cs) h = step_then t (length cs) (length cs) (run A.level A.board A.mover i c (own_in A t)) (run_all A.level A.board A.mover (i + length (statement c)) cs) (λ u. steps A u (i + length (statement c)) cs)
       (grows_run t (length cs) (length cs) i c h) (λ u k. steps_roomy u (i + length (statement c)) cs k)
 
-  pub steps_met : (t : Lists) (i : ℕ) (cs : List Stmt) → A.written ≤ length t.changes → length t.changes + length cs ≤ A.places.changes → length t.parcels + length cs ≤ A.places.parcels
-      → steps A t i cs ≡ follow (met A t (run_all A.level A.board A.mover i cs (own_in A t))) (λ x. Ok x.1)
-  steps_met t i cs h k l = steps_roomy t i cs (record { marked = h; changes = k; parcels = l })
-
   guarding_met : (t : Lists) (x : Placed) → Room A t (length x.transition.effect) (length x.transition.effect) → guarding A t x ≡ ends (met A t (guarded A.level A.board A.mover x (own_in A t)))
   guarding_met t x h =
       follow_same V _ _ (λ v. go (holds v))

@@ -1,8 +1,7 @@
 -- A quotient of numbers of 32 bits, wrapped.
-use Rattle.std.proofs.Common.{◌≡◌, ℕ, zero, suc, ◌/◌, ◌<◌, ℤ, pos, negsuc, neg_ℤ, Some, sym, refl, ap, mod-eq_of_lt, div-le_self, arith, w32, SFits, to_z, of_z}
+use Rattle.std.proofs.Common.{◌≡◌, ℕ, zero, suc, ◌/◌, ◌<◌, ℤ, pos, negsuc, neg_ℤ, sym, refl, ap, mod-eq_of_lt, div-le_self, arith, w32, SFits, to_z, of_z}
 use lib.Signed.{quot_z}
 use Rattle.std.specs.Int.{int_wrap}
-use Rattle.rules.specs.Arithmetic.{divided}
 
 pos_wrapped : (n : ℕ) → n < 4294967296 → to_z w32 (of_z w32 (pos n)) ≡ int_wrap w32 (pos n)
 unfolding int_wrap
@@ -18,8 +17,3 @@ quotient_wrapped (pos a) (pos b) f = let k = div-le_self a b in pos_wrapped (a /
 quotient_wrapped (pos a) (negsuc b) f = let k = div-le_self a (suc b) in neg_wrapped (a / suc b) (omega arith)
 quotient_wrapped (negsuc a) (pos b) f = let k = div-le_self (suc a) b in neg_wrapped (suc a / b) (omega arith)
 quotient_wrapped (negsuc a) (negsuc b) f = let k = div-le_self (suc a) (suc b) in pos_wrapped (suc a / suc b) (omega arith)
-
-pub by_some : (w z : ℤ) → (of_z w32 w ≡ 0 → ⊥) → Some z ≡ divided w z
-by_some (pos zero) z h = absurd (h refl)
-by_some (pos (suc n)) z h = refl
-by_some (negsuc n) z h = refl

@@ -1,5 +1,5 @@
 -- What a statement does to the trails, by the command byte at its place.
-use Rattle.std.proofs.Common.{◌≡◌, ℕ, ◌+◌, ◌<◌, ◌≤◌, true, List, [], ◌∷◌, length, get_or, take, drop, ℤ, Some, None, Ok, Err, Option, Result, IsErrAnd, sym, refl, ap, ◌∙◌, subst, ⊎_elim, arith, length-append, length-drop}
+use Rattle.std.proofs.Common.{◌≡◌, ℕ, ◌+◌, ◌<◌, ◌≤◌, true, List, [], ◌∷◌, length, get_or, take, drop, ℤ, Some, None, Ok, Err, Option, Result, IsErrAnd, sym, refl, ap, ◌∙◌, subst, ⊎_elim, arith, length-append}
 use Rattle.std.proofs.lemmas.List.{get_or-drop, drop-drop}
 use Rattle.std.proofs.lemmas.Bool.{cases_lt}
 use Rattle.mail.specs.declared.message.Message.{Message}
@@ -11,7 +11,7 @@ use Rattle.level.specs.Spelling.{expression, size, all, statement}
 use Rattle.level.specs.Syntax.{Expr, Stmt, assign, store, send}
 use Rattle.level.specs.Levels as level
 use Rattle.level.proofs.Legible.{bytes_from}
-use Rattle.level.proofs.Arms.{room_in, room_out, operand_in, operand_over, operand_under, stmt_at, stmt_none}
+use Rattle.level.proofs.Arms.{room_in, room_out, operand_in, operand_over, operand_under, stmt_at}
 use Rattle.rules.specs.declared.fault.Cause.TheVariants.{Missing}
 use Rattle.rules.specs.declared.fault.Stumble.{Stumble}
 use Rattle.rules.specs.declared.fault.Why.{Why}
@@ -110,9 +110,6 @@ module _ {M : Type 0} (trays : M → Trays) (limit : ℕ) (u : Turn M) (lent : T
       one : 1 ≤ length bs
       one = ⊎_elim (λ k. absurd (not_bad Q _ _ (room_out 1 bs _ k) h)) (λ k. k) (cases_lt (length bs) 1)
 
-      pub stmt_inside : i < length code
-      stmt_inside = let k = one in let l = length-drop i code in omega arith
-
       module _ (b0 : get_or code i 0 ≡ 0x20) where
         s0 : Q ≡ known bs (order 0x20) (read_order A.level.signals 8 bs)
         s0 = stmt_at A.level.signals 8 bs one 0x20 (first 0x20 b0)
@@ -125,9 +122,6 @@ module _ {M : Type 0} (trays : M → Trays) (limit : ℕ) (u : Turn M) (lent : T
 
         is : Q ≡ then (R (i + 2)) (λ e l. got (assign a e) l)
         is = s0 ∙ (room_in 2 bs _ l2 ∙ (operand_in 1 0 8 bs _ (omega arith) small ∙ rw (drop-drop 2 i code, byte 1)))
-
-        pub assign_long : i + 2 ≤ length code
-        assign_long = let k = l2 in let l = length-drop i code in omega arith
 
         inside_of : (r : Read Expr) → legible (then r (λ e l. got (assign a e) l)) ≡ true → legible r ≡ true
         inside_of (got e l) k = refl
@@ -177,9 +171,6 @@ module _ {M : Type 0} (trays : M → Trays) (limit : ℕ) (u : Turn M) (lent : T
         some : legible (pair (R (i + 2))) ≡ true
         some = subst (λ x. legible x ≡ true) are h
 
-        pub store_long : i + 2 ≤ length code
-        store_long = let k = m2 in let l = length-drop i code in omega arith
-
         first_of : (r : Read Expr) → legible (pair r) ≡ true → legible r ≡ true
         first_of (got e l) k = refl
         first_of (bad f) k = k
@@ -194,9 +185,6 @@ module _ {M : Type 0} (trays : M → Trays) (limit : ℕ) (u : Turn M) (lent : T
             let r = after S bytes deepest (i + 2) e l q in
             last_of e (R m) (rw (z, ← r) k)
         second_of (bad f) q k v m g = absurd (let y : ◌≡◌ {A = ℕ} 0 1 = cc in omega arith)
-
-        pub store_first : legible (R (i + 2)) ≡ true
-        store_first = first_of (R (i + 2)) some
 
         pub store_second : (v : ℤ) (m : ℕ) → Ok (v, m) ≡ value_at S (i + 2) (R (i + 2)) → legible (R m) ≡ true
         store_second v m f = second_of (R (i + 2)) refl some v m f
@@ -280,9 +268,6 @@ module _ {M : Type 0} (trays : M → Trays) (limit : ℕ) (u : Turn M) (lent : T
         some_all : legible (with_all (R (i + 2))) ≡ true
         some_all = subst (λ x. legible x ≡ true) sends_are h
 
-        pub send_long : i + 2 ≤ length code
-        send_long = let k = k2 in let l = length-drop i code in omega arith
-
         piece_of : (r : Read Expr) → legible (with_all r) ≡ true → legible r ≡ true
         piece_of (got e l) k = refl
         piece_of (bad f) k = k
@@ -297,9 +282,6 @@ module _ {M : Type 0} (trays : M → Trays) (limit : ℕ) (u : Turn M) (lent : T
             let r = after S bytes deepest (i + 2) e l q in
             all_of e (Rs a m) (rw (z, ← r) k)
         numbers_of (bad f) q k v m g = absurd (let y : ◌≡◌ {A = ℕ} 0 1 = cc in omega arith)
-
-        pub send_piece : legible (R (i + 2)) ≡ true
-        send_piece = piece_of (R (i + 2)) some_all
 
         pub send_numbers : (v : ℤ) (m : ℕ) → Ok (v, m) ≡ value_at S (i + 2) (R (i + 2)) → legible (Rs a m) ≡ true
         send_numbers v m f = numbers_of (R (i + 2)) refl some_all v m f
@@ -365,9 +347,6 @@ module _ {M : Type 0} (trays : M → Trays) (limit : ℕ) (u : Turn M) (lent : T
 
               pub send_told : (s : Lists) → Ok s ≡ meet A t (sends q v) → Ok (s, n) ≡ step_at A t i Q
               send_told s j = sym (gone _ _ _ (at_last (Some q) k) s j)
-
-      pub no_stmt : (32 ≤ get_or code i 0 → get_or code i 0 ≤ 34 → ⊥) → ⊥
-      no_stmt n = not_bad Q _ _ (stmt_none A.level.signals 8 bs one (λ l u. n (rw (← first _ refl) l) (rw (← first _ refl) u))) h
 
 -- a refusal that is passed on says nothing of the trails
 pub refused_with : {X : Type 0} (r : Result X Why) (t : Lists) (x : Result (Lists × X) Why) (w : Why) → IsErrAnd r (λ v. v ≡ w) → Err w ≡ x → with_lists r t ≡ x

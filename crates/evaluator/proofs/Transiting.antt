@@ -50,9 +50,6 @@ module _ {M : Type 0} (trays : M → Trays) (limit : ℕ) (u : Turn M) (places :
     begins = ap (λ o. transiting_by A t o m) (is_there u [] n found h) ∙ received m
         ∙ ap (λ e. follow (receiving A t (trial_of e m)) (λ v. guarding A v X)) (sym (is_entry u [] n found h))
 
-    pub transit_halts : (w : Why) → Err w ≡ entered → Err w ≡ whole
-    transit_halts w e = halted _ _ _ begins w e
-
     module _ (v : Lists) (e : Ok v ≡ entered) where
       abbrev R : Read Expr
       R = expression_at u.level.now deepest found.guard

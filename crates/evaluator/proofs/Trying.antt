@@ -1,5 +1,5 @@
 -- Received numbers entered, and guards tried.
-use Rattle.std.proofs.Common.{◌≡◌, ℕ, zero, suc, ◌+◌, ◌<◌, Bool, true, false, cond, ◌&&◌, eqb, List, [], ◌∷◌, ◌++◌, map, length, get_or, drop, ℤ, Some, None, Ok, Err, Option, Result, sym, refl, ap, ◌∙◌, arith}
+use Rattle.std.proofs.Common.{◌≡◌, ℕ, zero, suc, ◌+◌, ◌<◌, Bool, true, false, cond, ◌&&◌, eqb, List, [], ◌∷◌, ◌++◌, map, length, get_or, drop, ℤ, Some, None, Ok, Err, Result, sym, refl, ap, ◌∙◌, arith}
 use Rattle.mail.specs.declared.message.Message.{Message}
 use Rattle.level.specs.declared.entry.TransitionEntry.{TransitionEntry}
 use Rattle.level.specs.Entries.{transition_entry}
@@ -17,27 +17,15 @@ use Rattle.rules.specs.declared.fault.Why.TheVariants.{Guard}
 use Rattle.rules.specs.declared.trail.Change.{Change}
 use Rattle.rules.specs.Arithmetic.{holds}
 use Rattle.rules.specs.Game.{Game}
-use Rattle.rules.specs.Trace.{Own, writes, no_writes, Receipt, receipts, laid_over, bind, halt, evaluate, wants, unwanted}
+use Rattle.rules.specs.Trace.{Own, no_writes, receipts, laid_over, bind, halt, evaluate, wants, unwanted}
 use Rattle.evaluator.specs.declared.turn.Turn.{Turn}
 use Rattle.evaluator.specs.Lookup.{last_change}
-use Rattle.evaluator.specs.Meeting.{Around, sight_with, meet, receiving}
+use Rattle.evaluator.specs.Meeting.{sight_with}
 use Rattle.evaluator.specs.Reckoning.{board_of, follow, valued, legible}
 use Rattle.evaluator.specs.Rows.{states_of}
 use Rattle.evaluator.specs.Standing.{expression_at}
-use Rattle.evaluator.specs.Trails.{Lists}
 use Rattle.evaluator.specs.Trying.{numbers_of, trial_of, laid_by, tried, tried_at, wanted, wanted_at, discarded, held_at}
-use Rattle.evaluator.proofs.Following.{follow_follow, follow_same, follow_ok, valued_bind, halted, gone}
-
--- some receipts after others
-module _ (A : Around) where
-  pub receiving_more : (t : Lists) (rs ss : List Receipt) → receiving A t (rs ++ ss) ≡ follow (receiving A t rs) (λ u. receiving A u ss)
-  receiving_more t [] ss = refl
-  receiving_more t (r ∷ rs) ss = follow_same (meet A t (writes A.mover r.into r.value)) _ _ (λ u. receiving_more u rs ss)
-      ∙ sym (follow_follow (meet A t (writes A.mover r.into r.value)) (λ u. receiving A u rs) (λ u. receiving A u ss))
-
-  -- a number received alone
-  pub receiving_one : (t : Lists) (r : Receipt) → receiving A t (r ∷ []) ≡ meet A t (writes A.mover r.into r.value)
-  receiving_one t r = follow_ok (meet A t (writes A.mover r.into r.value))
+use Rattle.evaluator.proofs.Following.{follow_follow, follow_same, valued_bind, halted, gone}
 
 -- the entry of a transition that there is, and of one that there is not
 module _ {A B : Type 0} (f : A → B) where
@@ -69,14 +57,6 @@ receipts_are (a ∷ b ∷ l) m = refl
 
 pub trial_is : (x : Placed) (m : Message) → trial_of (transition_entry x) (Some m) ≡ receipts x.transition.receives m
 trial_is x m = sym (receipts_are x.transition.receives m)
-
--- one number received, then the other
-module _ (A : Around) (t : Lists) (rs ss : List Receipt) where
-  pub receives_not : (w : Why) → Err w ≡ receiving A t rs → Err w ≡ receiving A t (rs ++ ss)
-  receives_not w e = halted _ _ _ (receiving_more A t rs ss) w e
-
-  pub receives_on : (u : Lists) → Ok u ≡ receiving A t rs → receiving A u ss ≡ receiving A t (rs ++ ss)
-  receives_on u e = sym (gone _ _ _ (receiving_more A t rs ss) u e)
 
 -- a guard that stands at its place, tried with some own changes
 module _ {M : Type 0} (u : Turn M) (cs : List Change) (n : ℕ) (found : TransitionEntry) (h : Some found ≡ nth (map transition_entry (placed (meaning u.level.now))) n) where
@@ -165,17 +145,8 @@ module _ (L : syntax.Level) (b : Game) (p : ℕ) (E : List Change) (k s : ℕ) (
   drop_nth (y ∷ xs) zero x e = let q : y ≡ x = cc in ap (λ z. z ∷ xs) q
   drop_nth (y ∷ xs) (suc n) x e = let z : suc n + 1 ≡ suc (n + 1) = omega arith in drop_nth xs n x e ∙ ap (λ j. x ∷ drop j (y ∷ xs)) (sym z)
 
-  drop_none : (xs : List Placed) (n : ℕ) → nth xs n ≡ None → drop n xs ≡ []
-  drop_none [] zero e = refl
-  drop_none [] (suc n) e = refl
-  drop_none (y ∷ xs) zero e = absurd (let z : ◌≡◌ {A = ℕ} 0 1 = cc in omega arith)
-  drop_none (y ∷ xs) (suc n) e = drop_none xs n e
-
   next : (n : ℕ) (x : Placed) → nth (placed L) n ≡ Some x → from n ≡ follow (wanted L b p E k s m x) (λ z. cond z (Err Guard) (from (n + 1)))
   next n x e = ap rest (drop_nth (placed L) n x e) ∙ one_more x (drop (n + 1) (placed L))
-
-  pub from_end : (n : ℕ) → nth (placed L) n ≡ None → Ok tt ≡ from n
-  from_end n e = sym (ap rest (drop_none (placed L) n e))
 
 -- the transitions that a discard tries, one after the other
 module _ {M : Type 0} (u : Turn M) (cs : List Change) (k : ℕ) (m : Message) (es : List TransitionEntry) (are : es ≡ map transition_entry (placed (meaning u.level.now)))

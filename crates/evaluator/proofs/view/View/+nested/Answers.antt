@@ -2,7 +2,7 @@ use Rattle.std.proofs.Common.{Some, None, ap, ◌∙◌, arith, w32, SFits, rule
 use Rattle.std.proofs.lemmas.Int.{to_z-of_z}
 use Rattle.evaluator.specs.Reckoning.{told}
 use Rattle.evaluator.proofs.Following.{passed_on}
-use Rattle.evaluator.proofs.Reckoned.{here, deeper, at_constant, at_own_piece, at_own, other_long, other_legible, other_halts, other_told, negation_legible, negation_halts, negation_told, left_reads, left_halts, right_reads, right_halts, both_told, at_none}
+use Rattle.evaluator.proofs.Reckoned.{deeper, at_constant, at_own_piece, at_own, other_long, other_legible, other_halts, other_told, negation_legible, negation_halts, negation_told, left_reads, left_halts, right_reads, right_halts, both_told, at_none}
 use Rattle.evaluator.proofs.view.View.+nested.Goals as goal
 
 pub number_at-requires : goal.number_at-requires
