@@ -16,7 +16,7 @@ use Rattle.rules.specs.Game.{message}
 use Rattle.rules.specs.Trace.{give, bind}
 use Rattle.evaluator.specs.Meeting.{message_at}
 use Rattle.evaluator.specs.Reckoning.{Sight, follow, valued, legible, value_at}
-use Rattle.evaluator.proofs.Following.{follow_follow, follow_same, valued_bind}
+use Rattle.evaluator.proofs.Following.{follow_follow, follow_same, valued_bind, halted, gone}
 use Rattle.evaluator.proofs.Reckoned.{V, inner, after, ends}
 
 -- how many numbers a signal has
@@ -141,38 +141,39 @@ module _ (s : Sight) (bytes : (i : ℕ) → Bytes (drop i s.code)) (n i k : ℕ)
   pub none_told : k ≡ 0 → Ok (message n [], i) ≡ told
   none_told e = message_none s bytes n i ∙ ap (λ j. message_at s n i (read_exprs j 8 (drop i s.code))) (sym e)
 
-  module _ (e : k ≡ 1) where
-    legible_is : legible (Rs s bytes n i 1) ≡ true
-    legible_is = subst (λ j. legible (read_exprs j 8 (drop i s.code)) ≡ true) e h
+  module _ (j : ℕ) (e : k ≡ j) where
+    legible_at : legible (Rs s bytes n i j) ≡ true
+    legible_at = subst (λ l. legible (read_exprs l 8 (drop i s.code)) ≡ true) e h
 
+    told_at : told ≡ message_at s n i (Rs s bytes n i j)
+    told_at = ap (λ l. message_at s n i (read_exprs l 8 (drop i s.code))) e
+
+  module _ (e : k ≡ 1) where
     is : told ≡ follow first (one s bytes n i)
-    is = ap (λ j. message_at s n i (read_exprs j 8 (drop i s.code))) e ∙ message_one s bytes n i legible_is
+    is = told_at 1 e ∙ message_one s bytes n i (legible_at 1 e)
 
     pub one_halts : (w : Why) → Err w ≡ first → Err w ≡ told
-    one_halts w f = sym (is ∙ ap (λ r. follow r (one s bytes n i)) (sym f))
+    one_halts w f = halted _ _ _ is w f
 
     pub one_told : (v : ℤ) (m : ℕ) → Ok (v, m) ≡ first → Ok (message n (v ∷ []), m) ≡ told
-    one_told v m f = sym (is ∙ ap (λ r. follow r (one s bytes n i)) (sym f))
+    one_told v m f = sym (gone _ _ _ is (v, m) f)
 
   module _ (e : k ≡ 2) where
-    legible_are : legible (Rs s bytes n i 2) ≡ true
-    legible_are = subst (λ j. legible (read_exprs j 8 (drop i s.code)) ≡ true) e h
-
     are : told ≡ follow first (two s bytes n i)
-    are = ap (λ j. message_at s n i (read_exprs j 8 (drop i s.code))) e ∙ message_two s bytes n i legible_are
+    are = told_at 2 e ∙ message_two s bytes n i (legible_at 2 e)
 
     pub first_halts : (w : Why) → Err w ≡ first → Err w ≡ told
-    first_halts w f = sym (are ∙ ap (λ r. follow r (two s bytes n i)) (sym f))
+    first_halts w f = halted _ _ _ are w f
 
     module _ (v : ℤ) (m : ℕ) (f : Ok (v, m) ≡ first) where
       pub second_reads : legible (R s bytes n i m) ≡ true
-      second_reads = second_legible s bytes n i legible_are v m f
+      second_reads = second_legible s bytes n i (legible_at 2 e) v m f
 
       second : told ≡ follow (value_at s m (R s bytes n i m)) (λ y. Ok (message n (v ∷ y.0 ∷ []), y.1))
-      second = are ∙ ap (λ r. follow r (two s bytes n i)) (sym f)
+      second = gone _ _ _ are (v, m) f
 
       pub second_halts : (w : Why) → Err w ≡ value_at s m (R s bytes n i m) → Err w ≡ told
-      second_halts w q = sym (second ∙ ap (λ r. follow r (λ (y : ℤ × ℕ). Ok (message n (v ∷ y.0 ∷ []), y.1))) (sym q))
+      second_halts w q = halted _ _ _ second w q
 
       pub two_told : (u : ℤ) (j : ℕ) → Ok (u, j) ≡ value_at s m (R s bytes n i m) → Ok (message n (v ∷ u ∷ []), j) ≡ told
-      two_told u j q = sym (second ∙ ap (λ r. follow r (λ (y : ℤ × ℕ). Ok (message n (v ∷ y.0 ∷ []), y.1))) (sym q))
+      two_told u j q = sym (gone _ _ _ second (u, j) q)

@@ -18,11 +18,13 @@ use Rattle.rules.specs.Arithmetic.{holds}
 use Rattle.rules.specs.Calls.{Lent}
 use Rattle.rules.specs.Game.{Game, message}
 use Rattle.rules.specs.Trace.{Own, Event, reads, writes, sends, Trace, Receipt, receipts, evaluate, evaluate_all, run}
+use Rattle.evaluator.specs.declared.trail.Trails.{Trails}
 use Rattle.evaluator.specs.declared.turn.Turn.{Turn}
 use Rattle.evaluator.specs.Listing.{took_in}
 use Rattle.evaluator.specs.Lookup.{last_change, parcels_to}
 use Rattle.evaluator.specs.Reckoning.{Sight, board_of, follow, valued}
-use Rattle.evaluator.specs.Trails.{Lists}
+use Rattle.evaluator.specs.Standing.{statement_at}
+use Rattle.evaluator.specs.Trails.{Lists, lists, places}
 
 -- one entry more, where there is a place
 abbrev pub pushed : {T : Type 0} → ℕ → List T → T → List T
@@ -149,6 +151,10 @@ module _ (A : Around) where
   abbrev pub transiting_by : Lists → Option Placed → Option Message → Result Lists Why
   transiting_by t None m = Err Unknown
   transiting_by t (Some x) m = transiting t x m
+
+-- the statement that stands at a place of a turn's level, on the trails as they are
+abbrev pub stepped : {M : Type 0} → (M → Trays) → ℕ → Turn M → Trails → ℕ → Result (Lists × ℕ) Why
+stepped trays limit t lent i = step_at (around trays limit t (places lent)) (lists lent) i (statement_at t.level.now i)
 
 -- the message of a signal, with the values of the expressions that stand at a place, and the place after them
 abbrev pub message_at : Sight → ℕ → ℕ → Read (List Expr) → Result (Message × ℕ) Why

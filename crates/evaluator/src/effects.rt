@@ -2,7 +2,7 @@
 ghost use Rattle.std.specs.Prelude.{◌≡◌, true, slice_index};
 ghost use Rattle.level.specs.Levels.{code, meaning};
 ghost use Rattle.level.specs.Sound.{most_statements, parameters};
-ghost use Rattle.evaluator.specs.Meeting.{around, lists_or, message_at, sight_of, step_at, steps_at, there, with_lists};
+ghost use Rattle.evaluator.specs.Meeting.{around, lists_or, message_at, sight_of, stepped, steps_at, there, with_lists};
 ghost use Rattle.evaluator.specs.Reckoning.{legible};
 ghost use Rattle.evaluator.specs.Standing.{effect_at, expressions_at, statement_at};
 ghost use Rattle.evaluator.specs.Trails.{KeptBoth, held, lists, places};
@@ -65,7 +65,7 @@ impl<M: Mail> Turn<'_, M> {
     fn assign(&self, at: usize, trails: &mut Trails) -> Result<usize, Why>
         requires legible { legible (statement_at self.now.level.now at) ≡ true }
         requires byte { slice_index (code self.now.level.now) at ≡ 0x20 }
-        ensures lists { with_lists result (lists trails.new) ≡ step_at (around M.Mail.trays M.Mail.LIMIT self.now (places trails.old)) (lists trails.old) at (statement_at self.now.level.now at) }
+        ensures lists { with_lists result (lists trails.new) ≡ stepped M.Mail.trays M.Mail.LIMIT self.now trails.old at }
         ensures kept { KeptBoth trails.old trails.new }
     {
         let number = self.level.code()[at + 1];
@@ -85,7 +85,7 @@ impl<M: Mail> Turn<'_, M> {
     fn store(&self, at: usize, trails: &mut Trails) -> Result<usize, Why>
         requires legible { legible (statement_at self.now.level.now at) ≡ true }
         requires byte { slice_index (code self.now.level.now) at ≡ 0x21 }
-        ensures lists { with_lists result (lists trails.new) ≡ step_at (around M.Mail.trays M.Mail.LIMIT self.now (places trails.old)) (lists trails.old) at (statement_at self.now.level.now at) }
+        ensures lists { with_lists result (lists trails.new) ≡ stepped M.Mail.trays M.Mail.LIMIT self.now trails.old at }
         ensures kept { KeptBoth trails.old trails.new }
     {
         let number = self.level.code()[at + 1];
@@ -107,7 +107,7 @@ impl<M: Mail> Turn<'_, M> {
     fn post(&self, at: usize, trails: &mut Trails) -> Result<usize, Why>
         requires legible { legible (statement_at self.now.level.now at) ≡ true }
         requires byte { slice_index (code self.now.level.now) at ≡ 0x22 }
-        ensures lists { with_lists result (lists trails.new) ≡ step_at (around M.Mail.trays M.Mail.LIMIT self.now (places trails.old)) (lists trails.old) at (statement_at self.now.level.now at) }
+        ensures lists { with_lists result (lists trails.new) ≡ stepped M.Mail.trays M.Mail.LIMIT self.now trails.old at }
         ensures kept { KeptBoth trails.old trails.new }
     {
         let signal = self.level.code()[at + 1];
@@ -121,7 +121,7 @@ impl<M: Mail> Turn<'_, M> {
     // The statement at a place, and the place after it.
     fn statement(&self, at: usize, trails: &mut Trails) -> Result<usize, Why>
         requires { legible (statement_at self.now.level.now at) ≡ true }
-        ensures lists { with_lists result (lists trails.new) ≡ step_at (around M.Mail.trays M.Mail.LIMIT self.now (places trails.old)) (lists trails.old) at (statement_at self.now.level.now at) }
+        ensures lists { with_lists result (lists trails.new) ≡ stepped M.Mail.trays M.Mail.LIMIT self.now trails.old at }
         ensures kept { KeptBoth trails.old trails.new }
     {
         match self.level.code()[at] {
