@@ -121,13 +121,13 @@ mod tests {
         let mut places = [0u8; 2];
         let mut trail = Trail::new(&mut places);
         assert_eq!(rt; trail.room(), 2);
-        assert_eq!(rt; trail.push(7), true);
-        assert_eq!(rt; trail.push(8), true);
-        assert_eq!(rt; trail.push(9), false);
+        assert_eq!(rt; trail.push(7).is_ok(), true);
+        assert_eq!(rt; trail.push(8).is_ok(), true);
+        assert_eq!(rt; trail.push(9).is_ok(), false);
         assert_eq!(rt; trail.len(), 2);
         assert_eq!(rt; trail.entries().len(), 2);
         trail.clear();
         assert_eq!(rt; trail.len(), 0);
-        assert_eq!(rt; trail.push(9), true);
+        assert_eq!(rt; trail.push(9).is_ok(), true);
     }
 }
