@@ -26,7 +26,8 @@ fn quotient(left: i32, right: i32) -> i32
     left.wrapping_div(right)
 }
 
-// What the operator of a command byte makes of two numbers: none for a divisor of 0.
+// What the operator of a command byte makes of two numbers: none for a divisor of 0. An enum of the operators would be made from
+// the same bytes by as long a match.
 pub fn computed(command: u8, left: i32, right: i32) -> Option<i32>
     requires { (0x14 ≤ command) × (command ≤ 0x1C) }
     ensures { result ≡ result_of command left right }

@@ -33,6 +33,7 @@ fn there(named: Option<u8>, place: usize) -> Result<u8, Stumble>
     })
 }
 
+// That the code at a place was read is required, and not held by a struct: it would lend the level with every place.
 impl<M: Mail> Turn<'_, M> {
     // The message of a signal whose numbers are the values of the expressions at a place, and the place after them.
     fn message(&self, signal: u8, at: usize, trails: &Trails) -> Result<(Message, usize), Why>
@@ -70,14 +71,7 @@ impl<M: Mail> Turn<'_, M> {
     {
         let number = self.level.code()[at + 1];
         let (value, next) = self.expression(at + 2, trails)?;
-        self.write(
-            Change {
-                piece: self.mover,
-                number,
-                value,
-            },
-            trails,
-        )?;
+        self.write(self.own_change(number, value), trails)?;
         Ok(next)
     }
 

@@ -46,7 +46,8 @@ impl View<'_> {
         Ok(self.table.number(piece, number as usize))
     }
 
-    // The value of the expression at a place, which moves past it; at a stumble, to the command that met it.
+    // The value of the expression at a place, which moves past it; at a stumble, to the command that met it. One match over the
+    // command bytes, which calls itself as the depth falls, is a rule of the project.
     fn nested(&self, at: &mut usize, depth: u8) -> Result<i32, Halt>
         requires { legible (expression_at self.now.level.now depth at.old) ≡ true }
         ensures { told result at.new ≡ value_at (sight self.now) at.old (expression_at self.now.level.now depth at.old) }
@@ -95,7 +96,8 @@ impl View<'_> {
         }
     }
 
-    // The value of the whole expression at a place, and the place after it.
+    // The value of the whole expression at a place, and the place after it. Both answers hold the place where the reading stopped, so
+    // a match is plainer than a map of each.
     pub fn expression(&self, at: usize) -> Result<(i32, usize), Why>
         requires { legible (expression_at self.now.level.now deepest at) ≡ true }
         ensures { result ≡ value_at (sight self.now) at (expression_at self.now.level.now deepest at) }

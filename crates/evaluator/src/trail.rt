@@ -6,7 +6,7 @@ ghost use Rattle.std.specs.Prelude.{◌≤◌, length};
 
 use rules::trail::{Change, Parcel};
 
-// The first `count` of the lent places; what lies past them means nothing.
+// The first `count` of the lent places; what lies past them means nothing. A count beside a lent slice is a rule of the project.
 #[derive(Drop)]
 pub struct Trail<'a, T> {
     places: &'a mut [T],

@@ -7,9 +7,9 @@ ghost use Rattle.level.specs.Tables.{nth};
 ghost use Rattle.rules.specs.Trace.{unwanted};
 ghost use Rattle.evaluator.specs.Meeting.{around, lists_or, receiving, sight_with, transiting_by};
 ghost use Rattle.evaluator.specs.Reckoning.{board_of, legible};
-ghost use Rattle.evaluator.specs.Trails.{KeptBoth, held, lists, places};
-ghost use Rattle.evaluator.specs.Standing.{expression_at};
 ghost use Rattle.evaluator.specs.Rows.{states_of};
+ghost use Rattle.evaluator.specs.Standing.{expression_at};
+ghost use Rattle.evaluator.specs.Trails.{KeptBoth, held, lists, places};
 ghost use Rattle.evaluator.specs.Trying.{discarded, held_at, numbers_of, trial_of, tried_at, wanted_at};
 
 use crate::arithmetic::holds;
@@ -37,14 +37,7 @@ impl<M: Mail> Turn<'_, M> {
         let Some(number) = into else {
             return Ok(());
         };
-        self.write(
-            Change {
-                piece: self.mover,
-                number,
-                value,
-            },
-            trails,
-        )
+        self.write(self.own_change(number, value), trails)
     }
 
     // The numbers of the message are received in order, before the guard.
@@ -74,17 +67,6 @@ impl<M: Mail> Turn<'_, M> {
         Ok(holds(value))
     }
 
-    // A number of the mover that receives a value, as a change.
-    fn laid(&self, number: u8, value: i32) -> Change
-        ensures { result ≡ record { piece = self.now.mover; number = number; value = value } }
-    {
-        Change {
-            piece: self.mover,
-            number,
-            value,
-        }
-    }
-
     // Whether a transition, which wants the message, has a true guard. The numbers that it would receive are laid over for the trial
     // only. A second is never without a first.
     fn tried(&self, found: TransitionEntry, message: Message, trails: &Trails) -> Result<bool, Why>
@@ -94,13 +76,13 @@ impl<M: Mail> Turn<'_, M> {
         match (found.first, found.second) {
             (Some(first), Some(second)) => {
                 let own = [
-                    self.laid(first, message.first),
-                    self.laid(second, message.second),
+                    self.own_change(first, message.first),
+                    self.own_change(second, message.second),
                 ];
                 self.trial(found.guard, &own, trails)
             }
             (Some(first), None) => {
-                let own = [self.laid(first, message.first)];
+                let own = [self.own_change(first, message.first)];
                 self.trial(found.guard, &own, trails)
             }
             (None, _) => self.trial(found.guard, &[], trails),

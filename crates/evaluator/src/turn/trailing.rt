@@ -39,6 +39,17 @@ impl<M: Mail> Turn<'_, M> {
         self.view(earlier, own).expression(at)
     }
 
+    // That a number of the mover gets a value.
+    pub(crate) fn own_change(&self, number: u8, value: i32) -> Change
+        ensures { result ≡ record { piece = self.now.mover; number = number; value = value } }
+    {
+        Change {
+            piece: self.mover,
+            number,
+            value,
+        }
+    }
+
     // A change more, unless an earlier move has written the cell. Full trails hold what any beat writes, so that there is a place.
     pub fn write(&self, change: Change, trails: &mut Trails) -> Result<(), Why>
         ensures lists { lists_or result (lists trails.new) ≡ meet (around M.Mail.trays M.Mail.LIMIT self.now (places trails.old)) (lists trails.old) (writes change.piece change.number change.value) }
