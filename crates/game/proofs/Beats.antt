@@ -5,7 +5,7 @@ use Rattle.level.specs.Syntax.{Level}
 use Rattle.rules.specs.declared.fault.Why.{Why}
 use Rattle.rules.specs.declared.moves.Move.{Move}
 use Rattle.rules.specs.Beat.{Earlier, nothing, and_so, judge, judge_all, in_turn, changes_of, parcels_of, changes, parcels}
-use Rattle.rules.specs.Calls.{move_of}
+use Rattle.rules.specs.Calls.{move_of, front_moves}
 use Rattle.rules.specs.Checks.{Check, pass, fail}
 use Rattle.rules.specs.Deed.{Deed, deed}
 use Rattle.rules.specs.Game.{Game}
@@ -13,7 +13,6 @@ use Rattle.rules.proofs.Trails.{trails_suffice}
 use Rattle.evaluator.specs.Judging.{grown, checked, earlier_of}
 use Rattle.evaluator.specs.Meeting.{Lists}
 use Rattle.game.specs.Judged.{all_lists, lists_if}
-use Rattle.game.specs.Settling.{front_moves}
 use Rattle.game.proofs.Fronts.{front_step, front_none}
 use Rattle.game.proofs.Verdicts.{grew}
 

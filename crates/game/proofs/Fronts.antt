@@ -3,9 +3,8 @@ use Rattle.std.proofs.Common.{◌≡◌, ℕ, ◌-◌, ◌≤◌, Bool, true, fa
 use Rattle.std.proofs.lemmas.Slice.{between_to_end}
 use Rattle.std.proofs.lemmas.Bool.{cond-false, ne_eqb}
 use Rattle.rules.specs.declared.moves.Move.{Move}
-use Rattle.rules.specs.Calls.{move_of, moves_of}
+use Rattle.rules.specs.Calls.{move_of, moves_of, front_moves}
 use Rattle.rules.specs.Names.{then}
-use Rattle.game.specs.Settling.{front_moves}
 
 -- bytes that are moves throughout are those at their front
 one_front : (b : Bool) (o : Option (List Move)) (m : Move) (fs ms : List Move)

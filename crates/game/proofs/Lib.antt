@@ -1,6 +1,5 @@
 mod Fronts
 mod Settled
-mod OneMore
 mod Taps
 mod Rows
 mod Finding

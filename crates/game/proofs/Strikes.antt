@@ -1,5 +1,5 @@
 -- What the rules say of a strike, by how the code's steps end.
-use Rattle.std.proofs.Common.{◌≡◌, ℕ, ◌+◌, ◌≤◌, Bool, true, false, cond, ◌&&◌, leb, List, [], length, is_ok, is_err, Some, None, Ok, Err, Option, Result, sym, refl, ap, ◌∙◌, subst, arith}
+use Rattle.std.proofs.Common.{◌≡◌, ℕ, ◌≤◌, Bool, true, false, cond, ◌&&◌, leb, List, [], length, is_ok, is_err, Some, None, Ok, Err, Option, Result, sym, refl, ap, ◌∙◌, subst, arith}
 use Rattle.std.proofs.lemmas.Bool.{le-leb, leb-true, and_parts}
 use Rattle.level.specs.Sound.{Sound}
 use Rattle.rules.specs.declared.fault.CallFault.TheVariants.{Strike}
@@ -8,7 +8,7 @@ use Rattle.rules.specs.declared.fault.StrikeFault.{StrikeFault}
 use Rattle.rules.specs.declared.fault.StrikeFault.TheVariants.{ShortTrail, NotMoves, AtMove}
 use Rattle.rules.specs.declared.moves.Move.{Move}
 use Rattle.rules.specs.Beat.{nothing, judge_all}
-use Rattle.rules.specs.Calls.{Lent, full, strike, fire, accepted, After, refuse, moves_of, move_of, struck, beat, listed, call}
+use Rattle.rules.specs.Calls.{Lent, full, strike, fire, accepted, After, refuse, moves_of, move_of, struck, beat, listed, call, front_moves}
 use Rattle.rules.specs.Checks.{Check, pass, fail}
 use Rattle.rules.specs.Game.{Game, Within, Setting}
 use Rattle.rules.specs.Single.{Step}
@@ -17,7 +17,7 @@ use Rattle.rules.proofs.Single.{fire_is_a_step}
 use Rattle.evaluator.specs.Meeting.{Lists}
 use Rattle.game.specs.Games.{EndsAsEnabled, strike_answer}
 use Rattle.game.specs.Judged.{all_lists, counted, lists_if}
-use Rattle.game.specs.Settling.{front_moves, settled}
+use Rattle.game.specs.Settling.{settled}
 use Rattle.game.proofs.Counting.{count_is, count_not}
 use Rattle.game.proofs.Fronts.{moves_front}
 use Rattle.game.proofs.Settled.{settled_outcome}
@@ -33,18 +33,18 @@ module _ (S : Setting) (g : Game) (t : Lent) (bs : List ℕ) where
     opened : C ≡ listed S g (moves_of bs)
     opened = ap (λ b. cond b (listed S g (moves_of bs)) (refuse (Strike ShortTrail) g)) long
 
-    pub not_moves : (f : StrikeFault) → Err f ≡ counted 0 (moves_of bs) → C ≡ refuse (Strike f) g
+    pub not_moves : (f : StrikeFault) → Err f ≡ counted (moves_of bs) → C ≡ refuse (Strike f) g
     not_moves f e = opened ∙ go (moves_of bs) e
       where
-        go : (o : Option (List Move)) → Err f ≡ counted 0 o → listed S g o ≡ refuse (Strike f) g
+        go : (o : Option (List Move)) → Err f ≡ counted o → listed S g o ≡ refuse (Strike f) g
         go None k = let z : f ≡ NotMoves = cc in ap (λ x. refuse (Strike x) g) (sym z)
-        go (Some ms) k = let z = count_not (Some ms) f k in within (leb 1 (length ms) && leb (length ms) 16) (let y : 0 + length ms ≡ length ms = omega arith in subst (λ n. Err f ≡ cond (leb 1 n && leb n 16) (Ok n) (Err NotMoves)) y k) ∙ ap (λ x. refuse (Strike x) g) (sym z)
+        go (Some ms) k = let z = count_not (Some ms) f k in within (leb 1 (length ms) && leb (length ms) 16) k ∙ ap (λ x. refuse (Strike x) g) (sym z)
           where
             within : (b : Bool) → Err f ≡ cond b (Ok (length ms)) (Err NotMoves) → cond b (beat S g ms) (refuse (Strike NotMoves) g) ≡ refuse (Strike NotMoves) g
             within true j = absurd (let y : ◌≡◌ {A = ℕ} 0 1 = cc in omega arith)
             within false j = refl
 
-    module _ (n : ℕ) (e : Ok n ≡ counted 0 (moves_of bs)) where
+    module _ (n : ℕ) (e : Ok n ≡ counted (moves_of bs)) where
       it : (ms : List Move) × (moves_of bs ≡ Some ms) × (n ≡ length ms) × (1 ≤ length ms) × (length ms ≤ 16)
       it = count_is (moves_of bs) n e
 

@@ -1,20 +1,19 @@
 -- The checks of a tap, as the code makes them one after another.
-use Rattle.std.proofs.Common.{◌≡◌, ℕ, zero, suc, ◌<◌, ◌≤◌, Bool, true, false, cond, ◌||◌, eqb, ltb, List, [], ◌∷◌, length, get_or, Some, None, Ok, Err, Result, sym, refl, ap, ◌∙◌, arith, le-ltb, lt-ltb}
+use Rattle.std.proofs.Common.{◌≡◌, ℕ, zero, suc, ◌<◌, ◌≤◌, Bool, true, false, cond, not, ◌||◌, eqb, ltb, List, [], ◌∷◌, length, get_or, Some, None, is_ok, Ok, Err, Result, sym, refl, ap, ◌∙◌, arith, le-ltb, lt-ltb}
 use Rattle.std.proofs.lemmas.Bool.Decides.{nat_tests}
-use Rattle.mail.specs.declared.fault.MailFault.{MailFault}
 use Rattle.mail.specs.declared.fault.MailFault.TheVariants.{Full}
 use Rattle.mail.specs.declared.message.Message.{Message}
 use Rattle.mail.specs.Trays.{Trays, put_answer, put_trays}
 use Rattle.level.specs.Levels.{signal_parameters}
 use Rattle.level.specs.Sound.{parameters}
 use Rattle.level.specs.Tables.{nth}
-use Rattle.rules.specs.declared.fault.TapFault.TheVariants as fault
+use Rattle.rules.specs.declared.fault.TapFault.TheVariants.{NoSignal, Unused, TrayFull}
 use Rattle.rules.specs.Beat.{delivered}
-use Rattle.rules.specs.declared.fault.CallFault.TheVariants.{Tap}
 use Rattle.rules.specs.declared.fault.TapFault.{TapFault}
-use Rattle.rules.specs.Calls.{Answer, accepted, refused, fits, tap_check, tap, tapped, yield, refuse, call}
+use Rattle.rules.specs.Calls.{fits, tap_check, tap, tapped, yield, call}
 use Rattle.rules.specs.Checks.{pass, fail, never}
 use Rattle.rules.specs.Game.{Game, Setting}
+use Rattle.game.specs.Games.{after_tap}
 
 -- a signal that is declared, with its parameters, and one that is not
 nth_length : (ss : List ℕ) (s n : ℕ) → Some n ≡ nth ss s → (s < length ss) × (get_or ss s 0 ≡ n)
@@ -35,66 +34,59 @@ undeclared : (ss : List ℕ) (s : ℕ) → None ≡ signal_parameters ss s → (
 undeclared ss zero e = refl
 undeclared ss (suc s) e = let k = nth_beyond ss s e in grind (arith, nat_tests)
 
--- what putting answers by whether the tray has the limit's length
-abbrev by_length : Bool → Result (Unit {0}) MailFault
-by_length t = cond t (Err Full) (Ok tt)
-
-refused_full : (x : MailFault) (t : Bool) → Err x ≡ by_length t → t ≡ true
-refused_full x true h = refl
-refused_full x false h = absurd (let z : ◌≡◌ {A = ℕ} 0 1 = cc in omega arith)
-
-accepted_below : (t : Bool) → Ok tt ≡ by_length t → t ≡ false
-accepted_below true h = absurd (let z : ◌≡◌ {A = ℕ} 0 1 = cc in omega arith)
-accepted_below false h = refl
+-- a piece below their number is there
+pub is_piece : (p n k : ℕ) → n ≡ k → p < n → p < k
+is_piece p n k e h = omega arith
 
 -- the same game with these trays
 abbrev pub with_trays : Game → Trays → Game
 with_trays g t = record { states = g.states; numbers = g.numbers; trays = t }
 
 module _ (S : Setting) (g : Game) (p : ℕ) (m : Message) (there : p < length S.level.pieces) where
-  -- what the code answers and leaves is what the definition says
-  abbrev pub Tapped : Answer → Game → Type 0
-  Tapped a h = (a ≡ (call S g (tap p m)).answer) × (h ≡ (call S g (tap p m)).game)
+  abbrev After : Result ℕ TapFault → Game → Type 0
+  After r h = after_tap r h ≡ call S g (tap p m)
 
-  turned_away : (f : TapFault) → tap_check S g p m ≡ fail f → Tapped (refused (Tap f)) g
-  turned_away f e =
-      let c : refuse (Tap f) g ≡ call S g (tap p m) = sym (ap (tapped S g (yield S g p m)) e) in
-      (ap (λ r. r.answer) c, ap (λ r. r.game) c)
+  turned_away : (f : TapFault) → tap_check S g p m ≡ fail f → After (Err f) g
+  turned_away f e = sym (ap (tapped S g (yield S g p m)) e)
 
-  pub no_signal : None ≡ signal_parameters S.level.signals m.signal → Tapped (refused (Tap fault.NoSignal)) g
-  no_signal e = turned_away fault.NoSignal (rw (lt-ltb p (length S.level.pieces) there, undeclared S.level.signals m.signal e))
+  pub no_signal : None ≡ signal_parameters S.level.signals m.signal → After (Err NoSignal) g
+  no_signal e = turned_away NoSignal (rw (lt-ltb p (length S.level.pieces) there, undeclared S.level.signals m.signal e))
 
   module _ (n : ℕ) (e : Some n ≡ signal_parameters S.level.signals m.signal) where
-    pub unused : false ≡ fits n m → Tapped (refused (Tap fault.Unused)) g
+    abbrev full : Bool
+    full = eqb (length (g.trays p)) S.limit
+
+    pub unused : false ≡ fits n m → After (Err Unused) g
     unused f =
         let d = declared S.level.signals m.signal n e in
         let k : fits n m ≡ false = sym f in
-        turned_away fault.Unused (rw (lt-ltb p (length S.level.pieces) there, d.0, d.1, k))
+        turned_away Unused (rw (lt-ltb p (length S.level.pieces) there, d.0, d.1, k))
 
+    -- the checks before the last one pass, and for a piece up to 31 the mail refuses exactly at the limit
     module _ (f : true ≡ fits n m) (few : length S.level.pieces ≤ 32) where
-      -- for a piece up to 31 the mail refuses exactly at the limit
-      in_mail : put_answer S.limit g.trays p ≡ by_length (eqb (length (g.trays p)) S.limit)
-      in_mail = rw (le-ltb 31 p (omega arith))
-
-      -- the checks before the last one pass
-      last_check : tap_check S g p m ≡ never (eqb (length (g.trays p)) S.limit) fault.TrayFull
+      last_check : tap_check S g p m ≡ never full TrayFull
       last_check =
           let d = declared S.level.signals m.signal n e in
           let k : fits n m ≡ true = sym f in
           rw (lt-ltb p (length S.level.pieces) there, d.0, d.1, k)
 
       module _ (t : Trays) (after : t ≡ put_trays S.limit S.place g.trays p m) where
-        pub tray_full : (x : MailFault) → Err x ≡ put_answer S.limit g.trays p → Tapped (refused (Tap fault.TrayFull)) (with_trays g t)
-        tray_full x h =
-            let q = refused_full x (eqb (length (g.trays p)) S.limit) (h ∙ in_mail) in
-            let c = turned_away fault.TrayFull (last_check ∙ rw q) in
-            let same : t ≡ g.trays = after ∙ rw (le-ltb 31 p (omega arith), q) in
-            (c.0, ap (with_trays g) same ∙ c.1)
+        full_is : (o : Bool) → o ≡ is_ok (put_answer S.limit g.trays p) → full ≡ not o
+        full_is o h = let k : o ≡ is_ok {T = Unit {0}} (cond full (Err Full) (Ok tt)) = h ∙ rw (le-ltb 31 p (omega arith)) in go full k
+          where
+            go : (b : Bool) → o ≡ is_ok {T = Unit {0}} (cond b (Err Full) (Ok tt)) → b ≡ not o
+            go true e = rw e
+            go false e = rw e
 
-        pub tray_open : Ok tt ≡ put_answer S.limit g.trays p → Tapped (accepted 1) (with_trays g t)
+        pub tray_full : false ≡ is_ok (put_answer S.limit g.trays p) → After (Err TrayFull) (with_trays g t)
+        tray_full h =
+            let q : full ≡ true = full_is false h in
+            let same : t ≡ g.trays = after ∙ rw (le-ltb 31 p (omega arith), q) in
+            ap (λ u. after_tap (Err TrayFull) (with_trays g u)) same ∙ turned_away TrayFull (last_check ∙ rw q)
+
+        pub tray_open : true ≡ is_ok (put_answer S.limit g.trays p) → After (Ok 1) (with_trays g t)
         tray_open h =
-            let q = accepted_below (eqb (length (g.trays p)) S.limit) (h ∙ in_mail) in
-            let k : tap_check S g p m ≡ pass = last_check ∙ rw q in
-            let c : tapped S g (yield S g p m) pass ≡ call S g (tap p m) = sym (ap (tapped S g (yield S g p m)) k) in
+            let q : full ≡ false = full_is true h in
             let put : t ≡ delivered S.place g.trays (yield S g p m) = after ∙ rw (le-ltb 31 p (omega arith), q) in
-            (ap (λ r. r.answer) c, ap (with_trays g) put ∙ ap (λ r. r.game) c)
+            let k : tap_check S g p m ≡ pass = last_check ∙ rw q in
+            ap (λ u. after_tap (Ok 1) (with_trays g u)) put ∙ sym (ap (tapped S g (yield S g p m)) k)

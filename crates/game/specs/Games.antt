@@ -1,11 +1,12 @@
 -- What a game in memory means, and what a call on it answers.
-use Rattle.std.specs.Prelude.{◌≡◌, ℕ, List, replicate, ℤ, pos, Some, None, Ok, Err, Option, Result}
+use Rattle.std.specs.Prelude.{◌≡◌, ℕ, List, [], replicate, ℤ, pos, Some, None, Ok, Err, Option, Result}
 use Rattle.mail.specs.declared.message.Message.{Message}
 use Rattle.mail.specs.Trays.{Trays, no_messages}
 use Rattle.level.specs.Entries.{starting}
 use Rattle.level.specs.Syntax.{Piece, Level}
 use Rattle.evaluator.specs.declared.trail.Trail.{Trail}
 use Rattle.evaluator.specs.Rows.{states_of, numbers_of}
+use Rattle.evaluator.specs.Meeting.{Lists}
 use Rattle.evaluator.specs.Trails.{room}
 use Rattle.rules.specs.declared.fault.CallFault.TheVariants.{Tap, Strike}
 use Rattle.rules.specs.declared.fault.StrikeFault.{StrikeFault}
@@ -16,7 +17,7 @@ use Rattle.rules.specs.declared.trail.Parcel.{Parcel}
 use Rattle.rules.specs.Game as rules
 use Rattle.rules.specs.Game.{Setting}
 use Rattle.rules.specs.Single.{Step}
-use Rattle.rules.specs.Calls.{Lent, Answer, accepted, refused}
+use Rattle.rules.specs.Calls.{Lent, After, Answer, accepted, refused}
 use Rattle.game.specs.declared.board.Game.{Game}
 
 -- the states and numbers of its rows, and the trays that its mail means
@@ -36,6 +37,10 @@ abbrev pub tap_answer : Result ℕ TapFault → Answer
 tap_answer (Ok n) = accepted n
 tap_answer (Err f) = refused (Tap f)
 
+-- what a tap leaves: its answer, the game, and no trails
+abbrev pub after_tap : Result ℕ TapFault → rules.Game → After
+after_tap r g = record { answer = tap_answer r; game = g; changes = []; parcels = [] }
+
 -- every piece in state 0 with all numbers 0, and no messages
 abbrev pub unmoved : rules.Game
 unmoved = record { states = λ p. 0; numbers = λ p a. pos 0; trays = no_messages }
@@ -47,6 +52,10 @@ lent c p = record { changes = room c; parcels = room p }
 abbrev pub strike_answer : Result ℕ StrikeFault → Answer
 strike_answer (Ok n) = accepted n
 strike_answer (Err f) = refused (Strike f)
+
+-- what a fire or a strike leaves: its answer, the game, and what the two trails hold
+abbrev pub after_strike : Result ℕ StrikeFault → rules.Game → Lists → After
+after_strike r g t = record { answer = strike_answer r; game = g; changes = t.changes; parcels = t.parcels }
 
 -- wherever the published semantics enables a move and leads to h, the answer is 1 and the game ends as h
 abbrev pub EndsAsEnabled : Setting → rules.Game → Move → Result ℕ StrikeFault → rules.Game → Type 0

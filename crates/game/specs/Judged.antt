@@ -1,5 +1,5 @@
 -- What the code's judging answers, step by step. This is scaffolding between the rules and the code: no public promise speaks of it.
-use Rattle.std.specs.Prelude.{ℕ, ◌+◌, Bool, cond, ◌&&◌, List, ◌++◌, map, length, Some, None, Ok, Err, Option, Result, ◌==◌, nat_le}
+use Rattle.std.specs.Prelude.{ℕ, Bool, cond, ◌&&◌, List, ◌++◌, map, length, Some, None, Ok, Err, Option, Result, ◌==◌, nat_le}
 use Rattle.mail.specs.declared.message.Message.{Message}
 use Rattle.level.specs.declared.entry.TransitionEntry.{TransitionEntry}
 use Rattle.level.specs.Entries.{transition_entry}
@@ -42,7 +42,7 @@ abbrev pub with_trails : {A F : Type 0} → Result A F → Lists → Result List
 with_trails (Ok x) t = Ok t
 with_trails (Err f) t = Err f
 
--- how many moves there are, 1 to 16, after k others
-abbrev pub counted : ℕ → Option (List Move) → Result ℕ StrikeFault
-counted k None = Err NotMoves
-counted k (Some ms) = cond (nat_le 1 (k + length ms) && nat_le (k + length ms) 16) (Ok (k + length ms)) (Err NotMoves)
+-- how many moves there are, 1 to 16
+abbrev pub counted : Option (List Move) → Result ℕ StrikeFault
+counted None = Err NotMoves
+counted (Some ms) = cond (nat_le 1 (length ms) && nat_le (length ms) 16) (Ok (length ms)) (Err NotMoves)

@@ -12,15 +12,7 @@ use Rattle.rules.specs.declared.moves.Act.TheVariants.{Transition, Discard}
 use Rattle.rules.specs.declared.moves.Move.{Move}
 use Rattle.rules.specs.declared.trail.Change.{Change}
 use Rattle.rules.specs.declared.trail.Parcel.{Parcel}
-use Rattle.rules.specs.Calls.{move_of}
 use Rattle.rules.specs.Game.{Numbers, Game, Setting}
-
--- the moves at the front of some bytes
-abbrev pub front_moves : List ℕ → List Move
-front_moves [] = []
-front_moves (c ∷ []) = []
-front_moves (c ∷ p ∷ []) = []
-front_moves (c ∷ p ∷ t ∷ bs) = cond (c == 0x51) (move_of p t ∷ front_moves bs) []
 
 -- the changes one after the other
 abbrev pub written_all : Numbers → List Change → Numbers
@@ -57,6 +49,13 @@ module _ (L : Level) where
   abbrev pub taken_all : Trays → List Move → Trays
   taken_all t [] = t
   taken_all t (m ∷ ms) = taken_all (taken_by t m.piece m.act) ms
+
+  -- a game after one move is made, and after all of a list: what they write and send is left out
+  abbrev pub made : Game → Move → Game
+  made g m = record { states = moved_by g.states m.piece m.act; numbers = g.numbers; trays = taken_by g.trays m.piece m.act }
+
+  abbrev pub made_all : Game → List Move → Game
+  made_all g ms = record { states = moved_all g.states ms; numbers = g.numbers; trays = taken_all g.trays ms }
 
 -- the moves, then the changes and the parcels
 abbrev pub settled : Setting → Game → List Move → List Change → List Parcel → Game

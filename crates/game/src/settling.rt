@@ -1,17 +1,17 @@
 // Settling a beat that is accepted: its moves, then what it wrote and sent.
 ghost use Rattle.std.specs.Prelude.{◌≡◌};
 ghost use Rattle.level.specs.Levels.{meaning};
-ghost use Rattle.level.specs.Places.{placed};
-ghost use Rattle.level.specs.Tables.{nth};
+ghost use Rattle.rules.specs.declared.moves.Act.TheVariants.{Transition};
+ghost use Rattle.rules.specs.Calls.{front_moves};
 ghost use Rattle.evaluator.specs.Rows.{states_of, numbers_of};
 ghost use Rattle.game.specs.Games.{means, setting};
-ghost use Rattle.game.specs.Settling.{front_moves, written_all, put_all, state_by, trays_by, moved_by, taken_by, moved_all, taken_all, settled};
+ghost use Rattle.game.specs.Settling.{written_all, put_all, made, made_all, settled};
 
 use crate::board::Game;
 use evaluator::table::Table;
 use level::Level;
 use mail::Mail;
-use rules::moves::{Act, Move};
+use rules::moves::{Act, Move, Moves};
 use rules::trail::{Change, Parcel};
 
 // Each change gives its cell a value.
@@ -36,9 +36,7 @@ fn put_all<M: Mail>(mail: &mut M, parcels: &[Parcel])
 impl<M: Mail> Game<M> {
     // A transition leaves its piece in its target state. It takes a message if it has a trigger.
     fn transit(&mut self, level: &Level, piece: u8, number: u8)
-        ensures states { states_of self.new.table ≡ state_by (states_of self.old.table) piece (nth (placed (meaning level.now)) number) }
-        ensures numbers { numbers_of self.new.table ≡ numbers_of self.old.table }
-        ensures trays { M.Mail.trays self.new.mail ≡ trays_by (M.Mail.trays self.old.mail) piece (nth (placed (meaning level.now)) number) }
+        ensures { means M.Mail.trays self.new ≡ made (meaning level.now) (means M.Mail.trays self.old) (record { piece = piece; act = Transition number }) }
     {
         let Some(transition) = level.transition(number as usize) else {
             return;
@@ -51,9 +49,7 @@ impl<M: Mail> Game<M> {
 
     // One move. A discard takes a message and leaves its piece in the state that it has.
     fn make(&mut self, level: &Level, moving: Move)
-        ensures states { states_of self.new.table ≡ moved_by (meaning level.now) (states_of self.old.table) moving.piece moving.act }
-        ensures numbers { numbers_of self.new.table ≡ numbers_of self.old.table }
-        ensures trays { M.Mail.trays self.new.mail ≡ taken_by (meaning level.now) (M.Mail.trays self.old.mail) moving.piece moving.act }
+        ensures { means M.Mail.trays self.new ≡ made (meaning level.now) (means M.Mail.trays self.old) moving }
     {
         match moving.act {
             Act::Transition(number) => self.transit(level, moving.piece, number),
@@ -65,14 +61,10 @@ impl<M: Mail> Game<M> {
 
     // The moves at the front of the bytes.
     fn make_all(&mut self, level: &Level, moves: &[u8])
-        ensures states { states_of self.new.table ≡ moved_all (meaning level.now) (states_of self.old.table) (front_moves moves.now) }
-        ensures numbers { numbers_of self.new.table ≡ numbers_of self.old.table }
-        ensures trays { M.Mail.trays self.new.mail ≡ taken_all (meaning level.now) (M.Mail.trays self.old.mail) (front_moves moves.now) }
+        ensures { means M.Mail.trays self.new ≡ made_all (meaning level.now) (means M.Mail.trays self.old) (front_moves moves.now) }
     {
-        let mut left = moves;
-        while let [0x51, piece, transition, rest @ ..] = left {
-            self.make(level, Move::of_bytes(*piece, *transition));
-            left = rest;
+        for moving in Moves::new(moves) {
+            self.make(level, moving);
         }
     }
 

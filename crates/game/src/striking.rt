@@ -2,13 +2,12 @@
 ghost use Rattle.std.specs.Prelude.{◌≡◌, ◌≤◌, true, [], length, is_ok};
 ghost use Rattle.level.specs.Levels.{meaning};
 ghost use Rattle.rules.specs.Beat.{judge_all, nothing};
-ghost use Rattle.rules.specs.Calls.{call, fire, full, move_of, moves_of, strike};
+ghost use Rattle.rules.specs.Calls.{call, fire, full, move_of, moves_of, strike, front_moves};
 ghost use Rattle.rules.specs.Single.{Step};
 ghost use Rattle.evaluator.specs.Meeting.{Kept};
 ghost use Rattle.evaluator.specs.Trails.{held, room};
 ghost use Rattle.game.specs.Games.{EndsAsEnabled, lent, means, setting, strike_answer};
 ghost use Rattle.game.specs.Judged.{all_lists, counted, lists_if, with_trails};
-ghost use Rattle.game.specs.Settling.{front_moves};
 
 use crate::board::Game;
 use evaluator::listed::Listed;
@@ -16,7 +15,7 @@ use evaluator::trail::Trail;
 use level::Level;
 use mail::Mail;
 use rules::fault::{MoveFault, StrikeFault};
-use rules::moves::Move;
+use rules::moves::{Move, Moves};
 use rules::trail::{Change, Parcel};
 
 // Whether the trails have places for all that a beat may write and send.
@@ -26,18 +25,13 @@ fn full(changes: &Trail<Change>, parcels: &Trail<Parcel>) -> bool
     changes.room() >= 160 && parcels.room() >= 128
 }
 
-// How many moves the bytes are, 1 to 16.
+// How many moves the bytes are, 1 to 16. Each has three bytes, and nothing may be left.
 fn count_moves(bytes: &[u8]) -> Result<usize, StrikeFault>
-    ensures { result ≡ counted 0 (moves_of bytes.now) }
+    ensures { result ≡ counted (moves_of bytes.now) }
 {
-    let mut count = 0;
-    let mut left = bytes;
-    while let [0x51, _piece, _transition, rest @ ..] = left {
-        count += 1;
-        left = rest;
-    }
+    let count = Moves::new(bytes).count();
     match count {
-        1..=16 if left.len() == 0 => Ok(count),
+        1..=16 if bytes.len() == 3 * count => Ok(count),
         _ => Err(StrikeFault::NotMoves),
     }
 }

@@ -2,7 +2,7 @@
 ghost use Rattle.std.specs.Prelude.{◌≡◌};
 ghost use Rattle.level.specs.Levels.{meaning};
 ghost use Rattle.rules.specs.Calls.{call, fits, tap};
-ghost use Rattle.game.specs.Games.{means, setting, tap_answer};
+ghost use Rattle.game.specs.Games.{after_tap, means, setting};
 
 use crate::board::Game;
 use level::Level;
@@ -24,21 +24,21 @@ fn fits(parameters: u8, message: Message) -> bool
 impl<M: Mail> Game<M> {
     // Puts one message into a piece's tray, and answers 1.
     pub fn tap(&mut self, level: &Level, piece: u8, message: Message) -> Result<usize, TapFault>
-        ensures answer { tap_answer result ≡ (call (setting (meaning level.now) M.Mail.LIMIT M.Mail.place) (means M.Mail.trays self.old) (tap piece message)).answer }
-        ensures game { means M.Mail.trays self.new ≡ (call (setting (meaning level.now) M.Mail.LIMIT M.Mail.place) (means M.Mail.trays self.old) (tap piece message)).game }
+        ensures call { after_tap result (means M.Mail.trays self.new)
+            ≡ call (setting (meaning level.now) M.Mail.LIMIT M.Mail.place) (means M.Mail.trays self.old) (tap piece message) }
     {
         if piece as usize >= level.pieces() {
             return Err(TapFault::NoPiece);
         }
-        let Some(parameters) = level.parameters(message.signal as usize) else {
-            return Err(TapFault::NoSignal);
-        };
+        let parameters = level
+            .parameters(message.signal as usize)
+            .ok_or(TapFault::NoSignal)?;
         if !fits(parameters, message) {
             return Err(TapFault::Unused);
         }
-        match self.mail.put(piece, message) {
-            Ok(()) => Ok(1),
-            Err(_) => Err(TapFault::TrayFull),
-        }
+        self.mail
+            .put(piece, message)
+            .map_err(|_| TapFault::TrayFull)?;
+        Ok(1)
     }
 }

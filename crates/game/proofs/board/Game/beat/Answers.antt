@@ -4,8 +4,9 @@ use Rattle.level.specs.Levels.{meaning}
 use Rattle.level.proofs.Held.{held_sound}
 use Rattle.evaluator.specs.Trails.{held}
 use Rattle.game.specs.Games.{means, setting, lent, strike_answer}
-use Rattle.game.specs.Settling.{front_moves, settled}
+use Rattle.game.specs.Settling.{settled}
 use Rattle.game.proofs.Strikes.{few, stopped, answered, changes_are, parcels_are, ends, places_enough, no_trails}
+use Rattle.rules.specs.Calls.{front_moves}
 use Rattle.game.proofs.board.Game.beat.Goals as goal
 
 pub judge_all-requires : goal.judge_all-requires

@@ -8,8 +8,8 @@ use Rattle.evaluator.specs.Meeting.{Lists}
 use Rattle.evaluator.specs.Trails.{held}
 use Rattle.game.specs.Games.{means}
 use Rattle.game.specs.Judged.{all_lists}
-use Rattle.game.specs.Settling.{front_moves}
 use Rattle.game.proofs.Beats.{ends_badly, ends_well, at_first, refused_here, judged_on, listed_on, fewer_left, more_changes, more_parcels, judged_end, listed_end}
+use Rattle.rules.specs.Calls.{front_moves}
 use Rattle.game.proofs.board.Game.judge_all.Goals as goal
 
 pub loop-left-init : goal.loop-left-init

@@ -7,7 +7,7 @@ use Rattle.evaluator.specs.Meeting.{Kept}
 use Rattle.evaluator.specs.Trails.{held}
 use Rattle.game.specs.Games.{means}
 use Rattle.game.specs.Judged.{all_lists}
-use Rattle.game.specs.Settling.{front_moves}
+use Rattle.rules.specs.Calls.{front_moves}
 use Rattle.game.proofs.board.Game.judge_all.Given as goal
 
 abbrev pub invariant-loop-left : goal.invariant-loop-left
