@@ -1,5 +1,5 @@
 // What the tests of calls on a game have in common.
-use evaluator::trail::Trail;
+use evaluator::trail::Trails;
 use game::Game;
 use level::Level;
 use mail::Mail;
@@ -82,9 +82,8 @@ pub(crate) fn fire<M: Mail>(
 ) -> Result<usize, StrikeFault> {
     let mut change_places = [NO_CHANGE; 160];
     let mut parcel_places = [NO_PARCEL; 128];
-    let mut changes = Trail::new(&mut change_places);
-    let mut parcels = Trail::new(&mut parcel_places);
-    game.fire(level, piece, transition, &mut changes, &mut parcels)
+    let mut trails = Trails::new(&mut change_places, &mut parcel_places);
+    game.fire(level, piece, transition, &mut trails)
 }
 
 // Strikes with full trails, which are let go.
@@ -95,9 +94,8 @@ pub(crate) fn strike<M: Mail>(
 ) -> Result<usize, StrikeFault> {
     let mut change_places = [NO_CHANGE; 160];
     let mut parcel_places = [NO_PARCEL; 128];
-    let mut changes = Trail::new(&mut change_places);
-    let mut parcels = Trail::new(&mut parcel_places);
-    game.strike(level, moves, &mut changes, &mut parcels)
+    let mut trails = Trails::new(&mut change_places, &mut parcel_places);
+    game.strike(level, moves, &mut trails)
 }
 
 // How a piece stands: its state, its first number, and how many messages wait for it.

@@ -5,7 +5,7 @@ mod tests {
     use crate::calling::{
         LAMP_AND_BELL, NO_CHANGE, NO_PARCEL, change, fire, loaded, message, parcel, refused, stands,
     };
-    use evaluator::trail::Trail;
+    use evaluator::trail::Trails;
     use game::Game;
     use level::Level;
     use mail::Mail;
@@ -333,14 +333,10 @@ mod tests {
         game.set_out(&level);
         let mut change_places = [NO_CHANGE; 160];
         let mut parcel_places = [NO_PARCEL; 128];
-        let mut changes = Trail::new(&mut change_places);
-        let mut parcels = Trail::new(&mut parcel_places);
+        let mut trails = Trails::new(&mut change_places, &mut parcel_places);
         game.tap(&level, 0, message(1, 7, 0))?;
-        assert_eq!(rt;
-            game.fire(&level, 0, 0xFF, &mut changes, &mut parcels),
-            Ok(1)
-        );
-        assert_eq!(rt; (changes.len(), parcels.len()), (0, 0));
+        assert_eq!(rt; game.fire(&level, 0, 0xFF, &mut trails), Ok(1));
+        assert_eq!(rt; (trails.changes.len(), trails.parcels.len()), (0, 0));
         assert_eq!(rt; stands(&game, 0), (0, 8, 0));
         assert_eq!(rt; game.number(0, 1), 5);
         game.tap(&level, 0, message(2, 0, 0))?;
@@ -450,12 +446,11 @@ mod tests {
         game.set_out(&level);
         let mut change_places = [NO_CHANGE; 160];
         let mut parcel_places = [NO_PARCEL; 128];
-        let mut changes = Trail::new(&mut change_places);
-        let mut parcels = Trail::new(&mut parcel_places);
+        let mut trails = Trails::new(&mut change_places, &mut parcel_places);
         game.tap(&level, 0, message(1, 7, 4))?;
-        assert_eq!(rt; game.fire(&level, 0, 0, &mut changes, &mut parcels), Ok(1));
+        assert_eq!(rt; game.fire(&level, 0, 0, &mut trails), Ok(1));
         assert_eq!(rt;
-            changes.entries(),
+            trails.changes.entries(),
             [
                 change(0, 0, 7),
                 change(0, 0, 4),
@@ -465,7 +460,7 @@ mod tests {
             .as_slice()
         );
         assert_eq!(rt;
-            parcels.entries(),
+            trails.parcels.entries(),
             [parcel(0, message(1, 81, 4))].as_slice()
         );
         assert_eq!(rt; stands(&game, 0), (1, 4, 1));
@@ -481,16 +476,15 @@ mod tests {
         game.set_out(&level);
         let mut change_places = [NO_CHANGE; 160];
         let mut parcel_places = [NO_PARCEL; 128];
-        let mut changes = Trail::new(&mut change_places);
-        let mut parcels = Trail::new(&mut parcel_places);
-        assert!(rt; changes.push(NO_CHANGE) && parcels.push(NO_PARCEL));
+        let mut trails = Trails::new(&mut change_places, &mut parcel_places);
+        assert!(rt; trails.changes.push(NO_CHANGE) && trails.parcels.push(NO_PARCEL));
         game.tap(&level, 0, message(1, 7, 0))?;
         assert_eq!(rt;
-            game.fire(&level, 0, 0, &mut changes, &mut parcels),
+            game.fire(&level, 0, 0, &mut trails),
             refused(0, 0, 0, Why::Guard),
             "the second value stays, and is 0"
         );
-        assert_eq!(rt; (changes.len(), parcels.len()), (0, 0));
+        assert_eq!(rt; (trails.changes.len(), trails.parcels.len()), (0, 0));
         assert_eq!(rt; stands(&game, 0), (0, 0, 1));
         assert_eq!(rt; game.number(0, 1), 5);
         Ok(())
@@ -502,9 +496,8 @@ mod tests {
         let level = loaded(&bytes);
         let mut game = Game::new(QueueMail::new());
         game.set_out(&level);
-        let mut changes = Trail::new(changes);
-        let mut parcels = Trail::new(parcels);
-        game.fire(&level, 1, 1, &mut changes, &mut parcels)
+        let mut trails = Trails::new(changes, parcels);
+        game.fire(&level, 1, 1, &mut trails)
     }
 
     #[test]

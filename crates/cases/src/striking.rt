@@ -6,7 +6,7 @@ mod tests {
         LAMP_AND_BELL, NO_CHANGE, NO_PARCEL, change, fire, loaded, message, parcel, refused,
         stands, strike,
     };
-    use evaluator::trail::Trail;
+    use evaluator::trail::Trails;
     use game::Game;
     use level::Level;
     use mail::Mail;
@@ -24,23 +24,17 @@ mod tests {
         game.set_out(&level);
         let mut change_places = [NO_CHANGE; 160];
         let mut parcel_places = [NO_PARCEL; 128];
-        let mut changes = Trail::new(&mut change_places);
-        let mut parcels = Trail::new(&mut parcel_places);
+        let mut trails = Trails::new(&mut change_places, &mut parcel_places);
         game.tap(&level, 0, message(1, 30, 0))?;
         assert_eq!(rt;
-            game.strike(
-                &level,
-                b"\x51\x01\x01\x51\x00\x00",
-                &mut changes,
-                &mut parcels,
-            ),
+            game.strike(&level, b"\x51\x01\x01\x51\x00\x00", &mut trails),
             Ok(2)
         );
         assert_eq!(rt;
-            changes.entries(),
+            trails.changes.entries(),
             [change(1, 0, 9), change(0, 0, 30)].as_slice()
         );
-        assert_eq!(rt; parcels.len(), 0);
+        assert_eq!(rt; trails.parcels.len(), 0);
         assert_eq!(rt; stands(game, 0), (1, 30, 0));
         assert_eq!(rt; stands(game, 1), (0, 9, 0));
         Ok(())
@@ -59,20 +53,14 @@ mod tests {
         game.set_out(&level);
         let mut change_places = [NO_CHANGE; 160];
         let mut parcel_places = [NO_PARCEL; 128];
-        let mut changes = Trail::new(&mut change_places);
-        let mut parcels = Trail::new(&mut parcel_places);
-        assert!(rt; changes.push(NO_CHANGE) && parcels.push(NO_PARCEL));
+        let mut trails = Trails::new(&mut change_places, &mut parcel_places);
+        assert!(rt; trails.changes.push(NO_CHANGE) && trails.parcels.push(NO_PARCEL));
         game.tap(&level, 0, message(1, 30, 0))?;
         assert_eq!(rt;
-            game.strike(
-                &level,
-                b"\x51\x00\x00\x51\x01\x01",
-                &mut changes,
-                &mut parcels,
-            ),
+            game.strike(&level, b"\x51\x00\x00\x51\x01\x01", &mut trails),
             refused(1, 1, 1, Why::Clash)
         );
-        assert_eq!(rt; (changes.len(), parcels.len()), (0, 0));
+        assert_eq!(rt; (trails.changes.len(), trails.parcels.len()), (0, 0));
         assert_eq!(rt; stands(game, 0), (0, 2, 1));
         assert_eq!(rt; stands(game, 1), (0, 7, 0));
         Ok(())
@@ -96,18 +84,24 @@ mod tests {
     ) {
         let mut change_places = [NO_CHANGE; 160];
         let mut parcel_places = [NO_PARCEL; 128];
-        let mut changes = Trail::new(&mut change_places);
-        let mut parcels = Trail::new(&mut parcel_places);
-        let fired = one.fire(level, piece, transition, &mut changes, &mut parcels);
+        let mut trails = Trails::new(&mut change_places, &mut parcel_places);
+        let fired = one.fire(level, piece, transition, &mut trails);
         let mut struck_change_places = [NO_CHANGE; 160];
         let mut struck_parcel_places = [NO_PARCEL; 128];
-        let mut struck_changes = Trail::new(&mut struck_change_places);
-        let mut struck_parcels = Trail::new(&mut struck_parcel_places);
+        let mut struck_trails = Trails::new(&mut struck_change_places, &mut struck_parcel_places);
         let moves = [0x51, piece, transition];
-        let struck = other.strike(level, &moves, &mut struck_changes, &mut struck_parcels);
+        let struck = other.strike(level, &moves, &mut struck_trails);
         assert_eq!(rt; fired, struck, "{note}");
-        assert_eq!(rt; changes.entries(), struck_changes.entries(), "{note}");
-        assert_eq!(rt; parcels.entries(), struck_parcels.entries(), "{note}");
+        assert_eq!(rt;
+            trails.changes.entries(),
+            struck_trails.changes.entries(),
+            "{note}"
+        );
+        assert_eq!(rt;
+            trails.parcels.entries(),
+            struck_trails.parcels.entries(),
+            "{note}"
+        );
         assert_eq!(rt; stands(one, 0), stands(other, 0), "{note}");
         assert_eq!(rt; stands(one, 1), stands(other, 1), "{note}");
     }
@@ -167,14 +161,13 @@ mod tests {
         let level = Level::new();
         let mut change_places = [NO_CHANGE; 160];
         let mut parcel_places = [NO_PARCEL; 127];
-        let mut changes = Trail::new(&mut change_places);
-        let mut parcels = Trail::new(&mut parcel_places);
-        assert!(rt; changes.push(NO_CHANGE) && parcels.push(NO_PARCEL));
+        let mut trails = Trails::new(&mut change_places, &mut parcel_places);
+        assert!(rt; trails.changes.push(NO_CHANGE) && trails.parcels.push(NO_PARCEL));
         assert_eq!(rt;
-            game.strike(&level, b"", &mut changes, &mut parcels),
+            game.strike(&level, b"", &mut trails),
             Err(StrikeFault::ShortTrail)
         );
-        assert_eq!(rt; (changes.len(), parcels.len()), (0, 0));
+        assert_eq!(rt; (trails.changes.len(), trails.parcels.len()), (0, 0));
     }
 
     // The pieces 0 to 15 in order, each with transition 0.
@@ -227,16 +220,18 @@ mod tests {
         );
         let mut change_places = [NO_CHANGE; 160];
         let mut parcel_places = [NO_PARCEL; 128];
-        let mut changes = Trail::new(&mut change_places);
-        let mut parcels = Trail::new(&mut parcel_places);
+        let mut trails = Trails::new(&mut change_places, &mut parcel_places);
         let copying = SECOND_OF_ALL;
+        assert_eq!(rt; game.strike(&level, &copying, &mut trails), Ok(16));
+        assert_eq!(rt; (trails.changes.len(), trails.parcels.len()), (16, 0));
         assert_eq!(rt;
-            game.strike(&level, &copying, &mut changes, &mut parcels),
-            Ok(16)
+            trails.changes.entries().first().copied(),
+            Some(change(0, 0, 1))
         );
-        assert_eq!(rt; (changes.len(), parcels.len()), (16, 0));
-        assert_eq!(rt; changes.entries().first().copied(), Some(change(0, 0, 1)));
-        assert_eq!(rt; changes.entries().last().copied(), Some(change(15, 0, 0)));
+        assert_eq!(rt;
+            trails.changes.entries().last().copied(),
+            Some(change(15, 0, 0))
+        );
         assert_eq!(rt; (game.number(0, 0), game.number(14, 0)), (1, 15));
         assert_eq!(rt; (game.number(15, 0), game.number(16, 0)), (0, 0));
     }
@@ -551,23 +546,17 @@ mod tests {
         game.tap(&level, 0, message(1, 0, 0))?;
         let mut change_places = [NO_CHANGE; 160];
         let mut parcel_places = [NO_PARCEL; 128];
-        let mut changes = Trail::new(&mut change_places);
-        let mut parcels = Trail::new(&mut parcel_places);
+        let mut trails = Trails::new(&mut change_places, &mut parcel_places);
         assert_eq!(rt;
-            game.strike(
-                &level,
-                b"\x51\x01\x00\x51\x00\x00\x51\x02\x02",
-                &mut changes,
-                &mut parcels,
-            ),
+            game.strike(&level, b"\x51\x01\x00\x51\x00\x00\x51\x02\x02", &mut trails),
             Ok(3)
         );
         assert_eq!(rt;
-            changes.entries(),
+            trails.changes.entries(),
             [change(1, 0, 2), change(0, 0, 0)].as_slice()
         );
         assert_eq!(rt;
-            parcels.entries(),
+            trails.parcels.entries(),
             [
                 parcel(2, message(1, 1, 0)),
                 parcel(0, message(1, 0, 0)),
@@ -661,16 +650,18 @@ mod tests {
         }
         let mut change_places = [NO_CHANGE; 160];
         let mut parcel_places = [NO_PARCEL; 128];
-        let mut changes = Trail::new(&mut change_places);
-        let mut parcels = Trail::new(&mut parcel_places);
+        let mut trails = Trails::new(&mut change_places, &mut parcel_places);
         let moves = FIRST_OF_ALL;
+        assert_eq!(rt; game.strike(&level, &moves, &mut trails), Ok(16));
+        assert_eq!(rt; (trails.changes.len(), trails.parcels.len()), (160, 0));
         assert_eq!(rt;
-            game.strike(&level, &moves, &mut changes, &mut parcels),
-            Ok(16)
+            trails.changes.entries().first().copied(),
+            Some(change(0, 0, 50))
         );
-        assert_eq!(rt; (changes.len(), parcels.len()), (160, 0));
-        assert_eq!(rt; changes.entries().first().copied(), Some(change(0, 0, 50)));
-        assert_eq!(rt; changes.entries().last().copied(), Some(change(15, 7, 15)));
+        assert_eq!(rt;
+            trails.changes.entries().last().copied(),
+            Some(change(15, 7, 15))
+        );
         assert_eq!(rt; (game.number(15, 0), game.number(15, 7)), (15, 15));
         assert_eq!(rt; stands(&game, 15), (0, 15, 0));
         Ok(())
@@ -682,25 +673,27 @@ mod tests {
         game.set_out(&level);
         let mut change_places = [NO_CHANGE; 160];
         let mut parcel_places = [NO_PARCEL; 128];
-        let mut changes = Trail::new(&mut change_places);
-        let mut parcels = Trail::new(&mut parcel_places);
+        let mut trails = Trails::new(&mut change_places, &mut parcel_places);
         let moves = SECOND_OF_ALL;
-        assert_eq!(rt;
-            game.strike(&level, &moves, &mut changes, &mut parcels),
-            Ok(16)
-        );
-        assert_eq!(rt; (changes.len(), parcels.len()), (0, 128));
+        assert_eq!(rt; game.strike(&level, &moves, &mut trails), Ok(16));
+        assert_eq!(rt; (trails.changes.len(), trails.parcels.len()), (0, 128));
         let sent = message(2, 0, 0);
-        assert_eq!(rt; parcels.entries().first().copied(), Some(parcel(0, sent)));
-        assert_eq!(rt; parcels.entries().last().copied(), Some(parcel(31, sent)));
+        assert_eq!(rt;
+            trails.parcels.entries().first().copied(),
+            Some(parcel(0, sent))
+        );
+        assert_eq!(rt;
+            trails.parcels.entries().last().copied(),
+            Some(parcel(31, sent))
+        );
         assert_eq!(rt; (game.waiting(0), game.waiting(15)), (4, 4));
         assert_eq!(rt; (game.waiting(16), game.waiting(31)), (4, 4));
         assert_eq!(rt;
-            game.strike(&level, &moves, &mut changes, &mut parcels),
+            game.strike(&level, &moves, &mut trails),
             refused(0, 0, 1, Why::TrayFull),
             "four more fit into no tray"
         );
-        assert_eq!(rt; (parcels.len(), game.waiting(0)), (0, 4));
+        assert_eq!(rt; (trails.parcels.len(), game.waiting(0)), (0, 4));
     }
 
     #[test]

@@ -2,7 +2,6 @@
 use Rattle.std.proofs.Common.{◌≡◌, ℕ, ◌*◌, ◌≤◌, Bool, true, false, cond, ◌&&◌, eqb, leb, List, [], ◌∷◌, length, Some, None, Ok, Err, Option, sym, refl, ap, ◌∙◌, le-leb, arith}
 use Rattle.std.specs.Iterator.{Drains, YieldsFirst}
 use Rattle.std.proofs.lemmas.Bool.Decides.{nat_tests}
-use Rattle.rules.specs.declared.fault.StrikeFault.{StrikeFault}
 use Rattle.rules.specs.declared.fault.StrikeFault.TheVariants.{NotMoves}
 use Rattle.rules.specs.declared.moves.Move.{Move}
 use Rattle.rules.specs.Calls.{front_moves, move_of, moves_of}
@@ -79,11 +78,3 @@ count_is (Some ms) n e = go (leb 1 (length ms)) (leb (length ms) 16) refl refl e
     go true true p q k = let z : n ≡ length ms = cc in (ms, refl, z, grind (arith, nat_tests), grind (arith, nat_tests))
     go true false p q k = absurd (let y : ◌≡◌ {A = ℕ} 0 1 = cc in omega arith)
     go false b p q k = absurd (let y : ◌≡◌ {A = ℕ} 0 1 = cc in omega arith)
-
-pub count_not : (o : Option (List Move)) (f : StrikeFault) → Err f ≡ counted o → f ≡ NotMoves
-count_not None f e = cc
-count_not (Some ms) f e = go (leb 1 (length ms) && leb (length ms) 16) e
-  where
-    go : (a : Bool) → Err f ≡ cond a (Ok (length ms)) (Err NotMoves) → f ≡ NotMoves
-    go true k = absurd (let y : ◌≡◌ {A = ℕ} 0 1 = cc in omega arith)
-    go false k = cc

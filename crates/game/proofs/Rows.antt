@@ -1,10 +1,10 @@
 -- The rows of a game set out, and of one that nobody has set out.
 use Rattle.std.proofs.Common.{◌≡◌, ℕ, zero, suc, ◌+◌, ◌<◌, ◌≤◌, ◌⊎◌, List, [], ◌∷◌, map, length, get_or, set, replicate, ℤ, pos, Some, None, Option, refl, ap, ◌∙◌, inl, inr, arith}
 use mathlib.Core.Path.{fun_ext}
+use Rattle.std.specs.Option.{option_map_or}
 use Rattle.std.proofs.lemmas.List.{get_or_past, get_or-set_same, get_or-set_other}
 use Rattle.std.proofs.lemmas.Bool.{cases_eq, cases_lt}
 use Rattle.mail.specs.Trays.{Trays, no_messages}
-use Rattle.level.specs.declared.entry.PieceEntry.{PieceEntry}
 use Rattle.level.specs.Entries.{piece_entry}
 use Rattle.level.specs.Syntax.{Piece, Level}
 use Rattle.level.specs.Tables.{nth}
@@ -14,16 +14,11 @@ use Rattle.evaluator.specs.Rows.{no_row, row_of, states_of, numbers_of}
 use Rattle.rules.specs.Game.{Game, first_numbers, set_out}
 use Rattle.game.specs.Games.{row_start, unmoved}
 
--- a piece that the level has, and one that it has not
-pub start_some : (cs : List ℕ) (ps : List Piece) (p : ℕ) (e : PieceEntry) → Some e ≡ nth (map (piece_entry cs) ps) p → e.starts ≡ row_start (nth ps p)
-start_some cs [] p e h = absurd (let z : ◌≡◌ {A = ℕ} 0 1 = cc in omega arith)
-start_some cs (x ∷ ps) zero e h = let q : e ≡ piece_entry cs x = cc in rw q
-start_some cs (x ∷ ps) (suc p) e h = start_some cs ps p e h
-
-pub start_none : (cs : List ℕ) (ps : List Piece) (p : ℕ) → None ≡ nth (map (piece_entry cs) ps) p → replicate 8 (pos 0) ≡ row_start (nth ps p)
-start_none cs [] p h = refl
-start_none cs (x ∷ ps) zero h = absurd (let z : ◌≡◌ {A = ℕ} 0 1 = cc in omega arith)
-start_none cs (x ∷ ps) (suc p) h = start_none cs ps p h
+-- the starting numbers of a piece that the level has, and of one that it has not
+pub start_of : (cs : List ℕ) (ps : List Piece) (p : ℕ) → option_map_or (λ e. e.starts) (nth (map (piece_entry cs) ps) p) (replicate 8 (pos 0)) ≡ row_start (nth ps p)
+start_of cs [] p = refl
+start_of cs (x ∷ ps) zero = refl
+start_of cs (x ∷ ps) (suc p) = start_of cs ps p
 
 -- the row of a piece as it is set out
 abbrev pub first_row : Level → ℕ → Row

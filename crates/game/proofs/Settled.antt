@@ -24,6 +24,7 @@ use Rattle.rules.proofs.Frame.{mover}
 use Rattle.rules.proofs.Runs.{passed_run}
 use Rattle.rules.proofs.Swap.{Run}
 use Rattle.rules.proofs.Theorems.{trays_stay_within}
+use Rattle.game.specs.Judged.{all_lists, empty}
 use Rattle.game.specs.Settling.{written_all, put_all, state_by, trays_by, moved_by, taken_by, moved_all, taken_all, settled}
 
 -- changes of cells in the table are all written
@@ -120,7 +121,7 @@ module _ (S : Setting) (sound : Sound S.level) (g : Game) where
 
 pub settled_outcome : (S : Setting) → Sound S.level → (g : Game) → Within S.limit g → (ms : List Move)
     → judge_all S.limit g S.level nothing 0 ms ≡ pass
-    → settled S g ms (changes (map (deed S.level g) ms)) (parcels (map (deed S.level g) ms)) ≡ outcome S.place g (map (deed S.level g) ms)
+    → settled S g ms (all_lists S.level g empty ms) ≡ outcome S.place g (map (deed S.level g) ms)
 settled_outcome S sound g w ms h =
     let ds = map (deed S.level g) ms in
     let run = passed_run S g nothing 0 ms w h in

@@ -1,24 +1,23 @@
 -- What the rules say of a strike, by how the code's steps end.
-use Rattle.std.proofs.Common.{◌≡◌, ℕ, ◌≤◌, Bool, true, false, cond, ◌&&◌, leb, List, [], length, is_ok, is_err, Some, None, Ok, Err, Option, Result, sym, refl, ap, ◌∙◌, subst, arith}
-use Rattle.std.proofs.lemmas.Bool.{le-leb, leb-true, and_parts}
+use Rattle.std.proofs.Common.{◌≡◌, ℕ, ◌≤◌, true, cond, List, length, is_ok, Some, Ok, Err, Result, sym, refl, ap, ◌∙◌, subst, arith}
+use Rattle.std.proofs.lemmas.Bool.{le-leb}
 use Rattle.level.specs.Sound.{Sound}
 use Rattle.rules.specs.declared.fault.CallFault.TheVariants.{Strike}
 use Rattle.rules.specs.declared.fault.MoveFault.{MoveFault}
 use Rattle.rules.specs.declared.fault.StrikeFault.{StrikeFault}
-use Rattle.rules.specs.declared.fault.StrikeFault.TheVariants.{ShortTrail, NotMoves, AtMove}
+use Rattle.rules.specs.declared.fault.StrikeFault.TheVariants.{ShortTrail, AtMove}
 use Rattle.rules.specs.declared.moves.Move.{Move}
 use Rattle.rules.specs.Beat.{nothing, judge_all}
-use Rattle.rules.specs.Calls.{Lent, full, strike, fire, accepted, After, refuse, moves_of, move_of, struck, beat, listed, call, front_moves}
+use Rattle.rules.specs.Calls.{Lent, full, strike, fire, accepted, After, refuse, moves_of, move_of, struck, listed, call, front_moves}
 use Rattle.rules.specs.Checks.{Check, pass, fail}
 use Rattle.rules.specs.Game.{Game, Within, Setting}
 use Rattle.rules.specs.Single.{Step}
-use Rattle.rules.proofs.Refusals.{refusals_change_nothing}
 use Rattle.rules.proofs.Single.{fire_is_a_step}
-use Rattle.evaluator.specs.Meeting.{Lists}
-use Rattle.game.specs.Games.{EndsAsEnabled, strike_answer}
-use Rattle.game.specs.Judged.{all_lists, counted, lists_if}
+use Rattle.evaluator.specs.Trails.{Lists}
+use Rattle.game.specs.Games.{after_strike, EndsAsEnabled, strike_answer}
+use Rattle.game.specs.Judged.{all_lists, counted, empty, judged_all, lists_if}
 use Rattle.game.specs.Settling.{settled}
-use Rattle.game.proofs.Counting.{count_is, count_not}
+use Rattle.game.proofs.Counting.{count_is}
 use Rattle.game.proofs.Fronts.{moves_front}
 use Rattle.game.proofs.Settled.{settled_outcome}
 
@@ -26,23 +25,9 @@ module _ (S : Setting) (g : Game) (t : Lent) (bs : List ℕ) where
   abbrev C : After
   C = call S g (strike t bs)
 
-  pub short : full t ≡ false → C ≡ refuse (Strike ShortTrail) g
-  short e = ap (λ b. cond b (listed S g (moves_of bs)) (refuse (Strike ShortTrail) g)) e
-
   module _ (long : full t ≡ true) where
     opened : C ≡ listed S g (moves_of bs)
     opened = ap (λ b. cond b (listed S g (moves_of bs)) (refuse (Strike ShortTrail) g)) long
-
-    pub not_moves : (f : StrikeFault) → Err f ≡ counted (moves_of bs) → C ≡ refuse (Strike f) g
-    not_moves f e = opened ∙ go (moves_of bs) e
-      where
-        go : (o : Option (List Move)) → Err f ≡ counted o → listed S g o ≡ refuse (Strike f) g
-        go None k = let z : f ≡ NotMoves = cc in ap (λ x. refuse (Strike x) g) (sym z)
-        go (Some ms) k = let z = count_not (Some ms) f k in within (leb 1 (length ms) && leb (length ms) 16) k ∙ ap (λ x. refuse (Strike x) g) (sym z)
-          where
-            within : (b : Bool) → Err f ≡ cond b (Ok (length ms)) (Err NotMoves) → cond b (beat S g ms) (refuse (Strike NotMoves) g) ≡ refuse (Strike NotMoves) g
-            within true j = absurd (let y : ◌≡◌ {A = ℕ} 0 1 = cc in omega arith)
-            within false j = refl
 
     module _ (n : ℕ) (e : Ok n ≡ counted (moves_of bs)) where
       it : (ms : List Move) × (moves_of bs ≡ Some ms) × (n ≡ length ms) × (1 ≤ length ms) × (length ms ≤ 16)
@@ -72,59 +57,33 @@ module _ (S : Setting) (g : Game) (t : Lent) (bs : List ℕ) where
       good (fail x) u v k = absurd (let y : ◌≡◌ {A = ℕ} 0 1 = cc in omega arith)
 
       abbrev all : Lists
-      all = all_lists S.level g (record { changes = []; parcels = [] }) (front_moves bs)
+      all = all_lists S.level g empty (front_moves bs)
 
-      pub stopped : (f : MoveFault) → Err f ≡ lists_if J all → C ≡ refuse (Strike (AtMove f)) g
-      stopped f k = begun ∙ ap (struck S g ms) (bad J all f k)
+      pub stopped : (f : MoveFault) → Err f ≡ judged_all S.limit S.level g nothing empty 0 (front_moves bs) → refuse (Strike (AtMove f)) g ≡ C
+      stopped f k = sym (begun ∙ ap (struck S g ms) (bad J all f k))
 
-      module _ (u : Lists) (k : Ok u ≡ lists_if J all) where
-        passed : C ≡ struck S g ms pass
-        passed = begun ∙ ap (struck S g ms) (good J u all k).0
-
-        lists_are : u ≡ all_lists S.level g (record { changes = []; parcels = [] }) ms
-        lists_are = (good J u all k).1 ∙ ap (all_lists S.level g (record { changes = []; parcels = [] })) front
-
-        pub answered : accepted n ≡ C.answer
-        answered = ap accepted it.2 ∙ sym (ap (λ a. a.answer) passed)
-
-        pub changes_are : u.changes ≡ C.changes
-        changes_are = ap (λ l. l.changes) lists_are ∙ sym (ap (λ a. a.changes) passed)
-
-        pub parcels_are : u.parcels ≡ C.parcels
-        parcels_are = ap (λ l. l.parcels) lists_are ∙ sym (ap (λ a. a.parcels) passed)
-
-        pub ends : Sound S.level → Within S.limit g → settled S g (front_moves bs) u.changes u.parcels ≡ C.game
-        ends sound within =
-            ap (λ xs. settled S g xs u.changes u.parcels) front ∙ ap (λ l. settled S g ms l.changes l.parcels) lists_are
-            ∙ settled_outcome S sound g within ms (subst (λ xs. judge_all S.limit g S.level nothing 0 xs ≡ pass) front (good J u all k).0)
-            ∙ sym (ap (λ a. a.game) passed)
-
--- full trails have room for sixteen moves
-pub places_enough : (t : Lent) → full t ≡ true → (160 ≤ t.changes) × (128 ≤ t.parcels)
-places_enough t e = let k = and_parts (leb 160 t.changes) (leb 128 t.parcels) e in (leb-true 160 t.changes k.0, leb-true 128 t.parcels k.1)
-
--- a refused beat promises no trails
-pub no_trails : {X : Type 0} (r : Result ℕ StrikeFault) (f : StrikeFault) → r ≡ Err f → is_ok r ≡ true → X
-no_trails r f e k = absurd (let y : ◌≡◌ {A = ℕ} 0 1 = cc (ap is_ok e) in omega arith)
-
--- a refused strike leaves no trails
-pub refused_empty : (S : Setting) (g : Game) (t : Lent) (bs : List ℕ) (r : Result ℕ StrikeFault) → is_err r ≡ true → strike_answer r ≡ (call S g (strike t bs)).answer
-    → ((call S g (strike t bs)).changes ≡ []) × ((call S g (strike t bs)).parcels ≡ [])
-refused_empty S g t bs (Ok n) k e = absurd (let y : ◌≡◌ {A = ℕ} 0 1 = cc in omega arith)
-refused_empty S g t bs (Err f) k e =
-    let c = refusals_change_nothing S g (strike t bs) (Strike f) (sym e) in
-    (ap (λ a. a.changes) c, ap (λ a. a.parcels) c)
+      -- accepted, the game settled and the trails are what the rules say
+      pub made : Sound S.level → Within S.limit g → (u : Lists) → Ok u ≡ judged_all S.limit S.level g nothing empty 0 (front_moves bs)
+          → after_strike (Ok n) (settled S g (front_moves bs) u) u ≡ C
+      made sound within u k =
+          let (passes, lists) = good J u all k in
+          let here : u ≡ all_lists S.level g empty ms = lists ∙ ap (all_lists S.level g empty) front in
+          (λ j. after_strike (Ok (it.2 j)) (settled S g (front j) (here j)) (here j))
+          ∙ ap (λ x. after_strike (Ok (length ms)) x (all_lists S.level g empty ms)) (settled_outcome S sound g within ms (subst (λ xs. judge_all S.limit g S.level nothing 0 xs ≡ pass) front passes))
+          ∙ sym (begun ∙ ap (struck S g ms) passes)
 
 -- a fired move is a step of the published semantics, and the other way round
-pub fired_step : (S : Setting) (g g' : Game) (t : Lent) (p n : ℕ) (r : Result ℕ StrikeFault) → strike_answer r ≡ (call S g (fire t p n)).answer → g' ≡ (call S g (fire t p n)).game
-    → is_ok r ≡ true → Step S g (move_of p n) g'
-fired_step S g g' t p n (Ok k) e f o = subst (Step S g (move_of p n)) (sym f) (fire_is_a_step.sound S g t p n k (sym e))
-fired_step S g g' t p n (Err x) e f o = absurd (let y : ◌≡◌ {A = ℕ} 0 1 = cc in omega arith)
+module _ (S : Setting) (g g' : Game) (t : Lent) (p n : ℕ) (r : Result ℕ StrikeFault) (u : Lists) (done : after_strike r g' u ≡ call S g (fire t p n)) where
+  pub fired_step : is_ok r ≡ true → Step S g (move_of p n) g'
+  fired_step o = by r (ap (λ a. a.answer) done) o
+    where
+      by : (x : Result ℕ StrikeFault) → strike_answer x ≡ (call S g (fire t p n)).answer → is_ok x ≡ true → Step S g (move_of p n) g'
+      by (Ok k) e q = subst (Step S g (move_of p n)) (sym (ap (λ a. a.game) done)) (fire_is_a_step.sound S g t p n k (sym e))
+      by (Err x) e q = absurd (let y : ◌≡◌ {A = ℕ} 0 1 = cc in omega arith)
 
-pub enabled_fires : (S : Setting) (g g' : Game) (t : Lent) (p n : ℕ) (r : Result ℕ StrikeFault) → strike_answer r ≡ (call S g (fire t p n)).answer → g' ≡ (call S g (fire t p n)).game
-    → full t ≡ true → EndsAsEnabled S g (move_of p n) r g'
-enabled_fires S g g' t p n r e f long h s = let k = fire_is_a_step.complete S g h t p n long s in (one r (e ∙ k.0), f ∙ k.1)
-  where
-    one : (x : Result ℕ StrikeFault) → strike_answer x ≡ accepted 1 → x ≡ Ok 1
-    one (Ok k) q = let z : k ≡ 1 = cc in ap Ok z
-    one (Err y) q = absurd (let z : ◌≡◌ {A = ℕ} 0 1 = cc in omega arith)
+  pub enabled_fires : full t ≡ true → EndsAsEnabled S g (move_of p n) r g'
+  enabled_fires long h s = let k = fire_is_a_step.complete S g h t p n long s in (one r (ap (λ a. a.answer) done ∙ k.0), ap (λ a. a.game) done ∙ k.1)
+    where
+      one : (x : Result ℕ StrikeFault) → strike_answer x ≡ accepted 1 → x ≡ Ok 1
+      one (Ok k) q = let z : k ≡ 1 = cc in ap Ok z
+      one (Err y) q = absurd (let z : ◌≡◌ {A = ℕ} 0 1 = cc in omega arith)

@@ -4,7 +4,9 @@ use Rattle.std.proofs.lemmas.Bool.{eq-eqb}
 use Rattle.std.proofs.lemmas.Bool.Decides.{nat_tests}
 use Rattle.mail.specs.declared.message.Message.{Message}
 use Rattle.mail.specs.Trays.{front}
+use Rattle.mail.specs.Trays as mail
 use Rattle.level.specs.declared.store.Level as memory
+use Rattle.game.specs.declared.board.Game as memory_game
 use Rattle.level.specs.declared.entry.PieceEntry.{PieceEntry}
 use Rattle.level.specs.declared.entry.TransitionEntry.{TransitionEntry}
 use Rattle.level.specs.Entries.{piece_entry, transition_entry}
@@ -15,10 +17,9 @@ use Rattle.level.specs.Syntax.{Piece, Level}
 use Rattle.level.specs.Tables.{nth}
 use Rattle.level.proofs.Held.{few_pieces, held_sound}
 use Rattle.rules.specs.declared.fault.Why.{Why}
-use Rattle.rules.specs.declared.fault.Why.TheVariants.{Unknown, MovesAlready, NoMessage, Clash}
+use Rattle.rules.specs.declared.fault.Why.TheVariants.{NoMessage, Clash}
 use Rattle.rules.specs.declared.moves.Act.TheVariants.{Transition, Discard}
 use Rattle.rules.specs.Beat.{Earlier, left_in, along, judge, and_so, changes_of, parcels_of}
-use Rattle.rules.specs.Calls.{Lent}
 use Rattle.rules.specs.Checks.{Check, pass, fail}
 use Rattle.rules.specs.Deed.{Deed, transit_by, discard_by, deed, bears, transit_deed, discard_deed}
 use Rattle.rules.specs.Game.{Game}
@@ -26,14 +27,18 @@ use Rattle.rules.specs.Names.{transition_of}
 use Rattle.rules.specs.Trace.{Event, reads, writes, sends, unwanted}
 use Rattle.rules.proofs.Trails.{weight, weight_discard}
 use Rattle.evaluator.specs.Judging.{grown, checked, earlier_of}
-use Rattle.evaluator.specs.Listing.{noted}
+use Rattle.evaluator.specs.declared.listed.Listed.{Listed}
+use Rattle.evaluator.specs.declared.trail.Trails.{Trails}
+use Rattle.evaluator.specs.Listing.{moved_in, noted, took_in}
 use Rattle.evaluator.specs.Lookup.{parcels_to}
-use Rattle.evaluator.specs.Meeting.{Lists, Around, transiting, transiting_by, lists_or}
-use Rattle.evaluator.specs.Reckoning.{follow, valued}
+use Rattle.evaluator.specs.Meeting.{Around, transiting, transiting_by, lists_or}
+use Rattle.evaluator.specs.Trails.{Lists, held, lists, places}
+use Rattle.evaluator.specs.Reckoning.{board_of, follow, valued}
 use Rattle.evaluator.specs.Trying.{discarded}
 use Rattle.evaluator.proofs.Trying.{nth_below}
 use Rattle.evaluator.proofs.Bridge.{Finds, transit_judged, taking_judged, discard_judged, earlier_more}
-use Rattle.game.specs.Judged.{entry_of, bearing, awaited}
+use Rattle.game.specs.Games.{means}
+use Rattle.game.specs.Judged.{entry_of, bearing, awaited, before, judged, Roomy}
 use Rattle.game.proofs.Finding.{entry_some, stands_in, has_piece, piece_some}
 
 module _ (A : Around) (g : Game) (s : Earlier) (t : Lists) (finds : Finds A s t) (numbers : A.board.numbers ≡ g.numbers)
@@ -128,10 +133,6 @@ grew (Ok x) u v pass e k = cc
 grew (Ok x) u v (fail w) e k = absurd (let y : ◌≡◌ {A = ℕ} 0 1 = cc in omega arith)
 grew (Err w) u v c e k = absurd (let y : ◌≡◌ {A = ℕ} 0 1 = cc in omega arith)
 
--- a refused move is not accepted
-pub not_accepted : {X : Type 0} → false ≡ true → X
-not_accepted e = absurd (let y : ◌≡◌ {A = ℕ} 0 1 = cc in omega arith)
-
 -- what the earlier moves did, with one move more
 module _ (moved took moved' took' : ℕ → Bool) (t u : Lists) (d : Deed) (few : d.mover < 32) where
   pub one_more : moved' ≡ noted moved d.mover → took' ≡ (λ q. took q || (d.takes && noted (λ r. false) d.mover q)) → u ≡ grown t d.events
@@ -147,113 +148,100 @@ left_as g took b p h q = ap (λ c. left_in g q (took q || (b && c))) (grind (ari
 pub has_row : (l : memory.Level) (p : ℕ) (y : Piece) → nth (meaning l).pieces p ≡ Some y → p < 32
 has_row l p y e = let a = nth_below (meaning l).pieces p y e in let b = few_pieces l in omega arith
 
--- one move, as the code comes by it. `moved` and `took` are what is noted of the moves before it, and with a prime what is noted of it too
-module _ (l : memory.Level) (g b : Game) (numbers : b.numbers ≡ g.numbers) (states : b.states ≡ g.states) (limit : ℕ) (places : Lent)
-    (moved took moved' took' : ℕ → Bool) (t : Lists) (p written sent : ℕ) (left : ℕ → ℕ) where
+-- one move of piece p, as the code comes by it: n is what is noted before it, and n' what is noted then, and t are the trails before it
+module _ {M : Type 0} (trays : M → mail.Trays) (limit : ℕ) (l : memory.Level) (G : memory_game.Game M) (n n' : Listed) (t : Trails) (p written sent : ℕ) where
+  abbrev L : Level
+  L = meaning l
+
+  abbrev g : Game
+  g = means trays G
+
   abbrev At : Around
-  At = record { level = meaning l; board = b; mover = p; written = written; sent = sent; left = left; limit = limit; places = places }
+  At = record { level = L; board = board_of G.table; mover = p; written = written; sent = sent; left = λ q. left_in g q (took_in n' q); limit = limit; places = places t }
 
-  abbrev before : Earlier
-  before = earlier_of moved took t
-
-  module _ (marked : written ≡ length t.changes) (sealed : sent ≡ length t.parcels)
-      (roomy : length t.changes + 10 ≤ places.changes) (spacious : length t.parcels + 8 ≤ places.parcels)
-      (keeps : (q : ℕ) → left q ≡ left_in g q (took' q)) (unmoved : false ≡ moved p) where
-    found_at : Finds At before t
+  module _ (marked : written ≡ length (held t.changes)) (sealed : sent ≡ length (held t.parcels)) (roomy : Roomy t) (unmoved : false ≡ moved_in n p) where
+    found_at : Finds At (before n t) (lists t)
     found_at = record { written = marked; sent = sealed; wrote = λ q a. refl; posted = λ q. refl }
 
     -- what it takes, noted
-    taking : (takes : Bool) → p < 32 → took' ≡ (λ q. took q || (takes && noted (λ r. false) p q)) → (q : ℕ) → left q ≡ left_in g q (took q || (takes && eqb p q))
-    taking takes few e q = keeps q ∙ ap (λ f. left_in g q (f q)) e ∙ left_as g took takes p few q
+    taking : (takes : Bool) → p < 32 → took_in n' ≡ (λ q. took_in n q || (takes && noted (λ r. false) p q))
+        → (q : ℕ) → left_in g q (took_in n' q) ≡ left_in g q (took_in n q || (takes && eqb p q))
+    taking takes few e q = ap (λ f. left_in g q (f q)) e ∙ left_as g (took_in n) takes p few q
 
-    module _ (n : ℕ) (found : TransitionEntry) (h : Some found ≡ entry_of (transition_of (meaning l) p n)) (takes : Bool) (trigger : takes ≡ not (eqb found.signal 0))
-        (m : moved' ≡ noted moved p) (k : took' ≡ (λ q. took q || (takes && noted (λ r. false) p q)))
-        (there : g.states p ≡ found.source) (o : Option Message) (w : Ok o ≡ awaited found.signal (ltb 0 (parcels_to t.parcels p)) (front (g.trays p)))
-        {X : Type 0} (r : Result X Why) (u : Lists) (did : lists_or r u ≡ transiting_by At t (nth (placed (meaning l)) n) o) where
-      it : (x : Placed) × (transition_of (meaning l) p n ≡ Some x) × (found ≡ transition_entry x)
-      it = entry_some (transition_of (meaning l) p n) found h
+    module _ (number : ℕ) (found : TransitionEntry) (h : Some found ≡ entry_of (transition_of L p number)) (takes : Bool) (trigger : takes ≡ not (eqb found.signal 0))
+        (m : moved_in n' ≡ noted (moved_in n) p) (k : took_in n' ≡ (λ q. took_in n q || (takes && noted (λ r. false) p q)))
+        (there : g.states p ≡ found.source) (o : Option Message) (w : Ok o ≡ awaited found.signal (ltb 0 (parcels_to (held t.parcels) p)) (front (g.trays p)))
+        {X : Type 0} (r : Result X Why) (u : Trails) (did : lists_or r (lists u) ≡ transiting_by At (lists t) (nth (placed L) number) o) where
+      it : (x : Placed) × (transition_of L p number ≡ Some x) × (found ≡ transition_entry x)
+      it = entry_some (transition_of L p number) found h
 
       abbrev d : Deed
-      d = deed (meaning l) g (record { piece = p; act = Transition n })
+      d = deed L g (record { piece = p; act = Transition number })
 
       few : p < 32
-      few = has_row l p _ (has_piece (meaning l) p n it.0 it.1).1
+      few = has_row l p _ (has_piece L p number it.0 it.1).1
 
       signal : found.signal ≡ it.0.transition.signal
       signal = ap (λ z. z.signal) it.2
 
       takes_is : takes ≡ d.takes
-      takes_is = trigger ∙ ap (λ z. not (eqb z 0)) signal ∙ ap (λ y. (transit_deed (meaning l) g p y).takes) (sym it.1)
+      takes_is = trigger ∙ ap (λ z. not (eqb z 0)) signal ∙ ap (λ y. (transit_deed L g p y).takes) (sym it.1)
 
       mover_is : d.mover ≡ p
-      mover_is = ap (λ y. (transit_deed (meaning l) g p y).mover) it.1
+      mover_is = ap (λ y. (transit_deed L g p y).mover) it.1
 
-      pub transition_verdict : lists_or r u ≡ checked (judge limit g before d) (grown t d.events)
+      transition_verdict : lists_or r (lists u) ≡ judged limit L g (before n t) (lists t) (record { piece = p; act = Transition number })
       transition_verdict =
-          did ∙ transition_judged At g before t found_at numbers roomy spacious (held_sound l) n it.0 it.1 (stands_in (meaning l) p n it.0 it.1) (sym unmoved)
+          did ∙ transition_judged At g (before n t) (lists t) found_at refl roomy.0 roomy.1 (held_sound l) number it.0 it.1 (stands_in L p number it.0 it.1) (sym unmoved)
           (there ∙ ap (λ z. z.source) it.2)
-          (λ q. taking takes few k q ∙ ap (λ c. left_in g q (took q || (c && eqb p q))) (trigger ∙ ap (λ z. not (eqb z 0)) signal))
-          o (w ∙ ap (λ z. awaited z (ltb 0 (parcels_to t.parcels p)) (front (g.trays p))) signal)
+          (λ q. taking takes few k q ∙ ap (λ c. left_in g q (took_in n q || (c && eqb p q))) (trigger ∙ ap (λ z. not (eqb z 0)) signal))
+          o (w ∙ ap (λ z. awaited z (ltb 0 (parcels_to (held t.parcels) p)) (front (g.trays p))) signal)
 
-      pub transition_noted : is_ok r ≡ true → earlier_of moved' took' u ≡ and_so before d
-      transition_noted y = one_more moved took moved' took' t u d (subst (λ z. z < 32) (sym mover_is) few)
-          (m ∙ ap (noted moved) (sym mover_is)) (k ∙ (λ i. λ q. took q || (takes_is i && noted (λ r. false) (sym mover_is i) q))) (grew r u (grown t d.events) (judge limit g before d) transition_verdict y)
+      pub transition_judgement : (lists_or r (lists u) ≡ judged limit L g (before n t) (lists t) (record { piece = p; act = Transition number })) × (is_ok r ≡ true → before n' u ≡ and_so (before n t) d)
+      transition_judgement = (
+        transition_verdict,
+        λ y. one_more (moved_in n) (took_in n) (moved_in n') (took_in n') (lists t) (lists u) d (subst (λ z. z < 32) (sym mover_is) few)
+            (m ∙ ap (noted (moved_in n)) (sym mover_is)) (k ∙ (λ i. λ q. took_in n q || (takes_is i && noted (λ r. false) (sym mover_is i) q)))
+            (grew r (lists u) (grown (lists t) d.events) (judge limit g (before n t) d) transition_verdict y),
+      )
 
-    module _ (entry : PieceEntry) (h : Some entry ≡ nth (map (piece_entry (counts (meaning l).kinds)) (meaning l).pieces) p)
-        (m : moved' ≡ noted moved p) (k : took' ≡ (λ q. took q || (true && noted (λ r. false) p q)))
-        (message : Message) (first : Some message ≡ front (g.trays p)) (free : ltb 0 (parcels_to t.parcels p) ≡ false)
-        (r : Result (Unit {0}) Why) (did : r ≡ discarded t.changes (unwanted (meaning l) b p entry.kind (b.states p) message (placed (meaning l)))) where
-      the : (y : Piece) × (nth (meaning l).pieces p ≡ Some y) × (entry.kind ≡ y.kind)
-      the = piece_some (meaning l) p entry h
+    module _ (entry : PieceEntry) (h : Some entry ≡ nth (map (piece_entry (counts L.kinds)) L.pieces) p)
+        (m : moved_in n' ≡ noted (moved_in n) p) (k : took_in n' ≡ (λ q. took_in n q || (true && noted (λ r. false) p q)))
+        (message : Message) (first : Some message ≡ front (g.trays p)) (free : ltb 0 (parcels_to (held t.parcels) p) ≡ false)
+        (r : Result (Unit {0}) Why) (did : r ≡ discarded (held t.changes) (unwanted L (board_of G.table) p entry.kind (g.states p) message (placed L))) where
+      the : (y : Piece) × (nth L.pieces p ≡ Some y) × (entry.kind ≡ y.kind)
+      the = piece_some L p entry h
 
       abbrev away : Deed
-      away = deed (meaning l) g (record { piece = p; act = Discard })
+      away = deed L g (record { piece = p; act = Discard })
 
       few_rows : p < 32
       few_rows = has_row l p _ the.1
 
-      is : away ≡ discard_by (meaning l) g p the.0.kind (Some message)
-      is = ap (discard_deed (meaning l) g p) the.1 ∙ ap (discard_by (meaning l) g p the.0.kind) (sym first)
+      is : away ≡ discard_by L g p the.0.kind (Some message)
+      is = ap (discard_deed L g p) the.1 ∙ ap (discard_by L g p the.0.kind) (sym first)
 
       -- its evaluation only reads, so that the trails stay
-      nothing_more : grown t away.events ≡ t
-      nothing_more = ap (λ z. grown t z.events) is ∙ grown_nothing t (meaning l) g p the.0.kind message
+      nothing_more : grown (lists t) away.events ≡ lists t
+      nothing_more = ap (λ z. grown (lists t) z.events) is ∙ grown_nothing (lists t) L g p the.0.kind message
 
-      as_lists : (z : Result (Unit {0}) Why) → lists_or z t ≡ follow z (λ u. Ok t)
+      as_lists : (z : Result (Unit {0}) Why) → lists_or z (lists t) ≡ follow z (λ u. Ok (lists t))
       as_lists (Ok x) = refl
       as_lists (Err w) = refl
 
-      pub discard_verdict : lists_or r t ≡ checked (judge limit g before away) (grown t away.events)
+      discard_verdict : lists_or r (lists t) ≡ judged limit L g (before n t) (lists t) (record { piece = p; act = Discard })
       discard_verdict =
-          as_lists r ∙ ap (λ z. follow z (λ u. Ok t)) did
-          ∙ ap (λ z. follow (discarded t.changes (unwanted (meaning l) b p z (b.states p) message (placed (meaning l)))) (λ u. Ok t)) the.2
-          ∙ discard_passed At g before t found_at numbers roomy spacious (held_sound l) states the.0 the.1 (sym unmoved) message (sym first) free (taking true few_rows k)
-          ∙ ap (checked (judge limit g before away)) (sym nothing_more)
+          as_lists r ∙ ap (λ z. follow z (λ u. Ok (lists t))) did
+          ∙ ap (λ z. follow (discarded (held t.changes) (unwanted L (board_of G.table) p z (g.states p) message (placed L))) (λ u. Ok (lists t))) the.2
+          ∙ discard_passed At g (before n t) (lists t) found_at refl roomy.0 roomy.1 (held_sound l) refl the.0 the.1 (sym unmoved) message (sym first) free (taking true few_rows k)
+          ∙ ap (checked (judge limit g (before n t) away)) (sym nothing_more)
 
       mover_of : away.mover ≡ p
       mover_of = ap (λ z. z.mover) is
 
-      pub discard_noted : is_ok r ≡ true → earlier_of moved' took' t ≡ and_so before away
-      discard_noted y = one_more moved took moved' took' t t away (subst (λ z. z < 32) (sym mover_of) few_rows)
-          (m ∙ ap (noted moved) (sym mover_of)) (k ∙ (λ i. λ q. took q || (ap (λ z. z.takes) (sym is) i && noted (λ r. false) (sym mover_of i) q))) (sym nothing_more)
-
--- a discard that a check refuses
-module _ (limit : ℕ) (L : Level) (g : Game) (s : Earlier) (t : Lists) (p : ℕ) where
-  abbrev told : Option Piece → Result Lists Why
-  told y = checked (judge limit g s (discard_deed L g p y)) (grown t (discard_deed L g p y).events)
-
-  pub discard_unknown : nth L.pieces p ≡ None → Err Unknown ≡ told (nth L.pieces p)
-  discard_unknown e = sym (ap told e)
-
-  module _ (y : Piece) (of : nth L.pieces p ≡ Some y) where
-    refused : (w : Why) → judge limit g s (discard_by L g p y.kind (front (g.trays p))) ≡ fail w → Err w ≡ told (nth L.pieces p)
-    refused w e = sym (ap told of ∙ ap (λ c. checked c (grown t (discard_by L g p y.kind (front (g.trays p))).events)) e)
-
-    pub discard_moved : s.moved p ≡ true → Err MovesAlready ≡ told (nth L.pieces p)
-    discard_moved e = refused MovesAlready (rw e)
-
-    pub discard_empty : s.moved p ≡ false → front (g.trays p) ≡ None → Err NoMessage ≡ told (nth L.pieces p)
-    discard_empty e f = refused NoMessage (rw (e, f))
-
-    pub discard_clash : s.moved p ≡ false → (m : Message) → front (g.trays p) ≡ Some m → s.sent p ≡ true → Err Clash ≡ told (nth L.pieces p)
-    discard_clash e m f k = refused Clash (rw (e, f, k))
+      pub discard_judgement : (lists_or r (lists t) ≡ judged limit L g (before n t) (lists t) (record { piece = p; act = Discard })) × (is_ok r ≡ true → before n' t ≡ and_so (before n t) away)
+      discard_judgement = (
+        discard_verdict,
+        λ y. one_more (moved_in n) (took_in n) (moved_in n') (took_in n') (lists t) (lists t) away (subst (λ z. z < 32) (sym mover_of) few_rows)
+            (m ∙ ap (noted (moved_in n)) (sym mover_of)) (k ∙ (λ i. λ q. took_in n q || (ap (λ z. z.takes) (sym is) i && noted (λ r. false) (sym mover_of i) q))) (sym nothing_more),
+      )

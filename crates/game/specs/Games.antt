@@ -4,20 +4,16 @@ use Rattle.mail.specs.declared.message.Message.{Message}
 use Rattle.mail.specs.Trays.{Trays, no_messages}
 use Rattle.level.specs.Entries.{starting}
 use Rattle.level.specs.Syntax.{Piece, Level}
-use Rattle.evaluator.specs.declared.trail.Trail.{Trail}
 use Rattle.evaluator.specs.Rows.{states_of, numbers_of}
-use Rattle.evaluator.specs.Meeting.{Lists}
-use Rattle.evaluator.specs.Trails.{room}
+use Rattle.evaluator.specs.Trails.{Lists}
 use Rattle.rules.specs.declared.fault.CallFault.TheVariants.{Tap, Strike}
 use Rattle.rules.specs.declared.fault.StrikeFault.{StrikeFault}
 use Rattle.rules.specs.declared.fault.TapFault.{TapFault}
 use Rattle.rules.specs.declared.moves.Move.{Move}
-use Rattle.rules.specs.declared.trail.Change.{Change}
-use Rattle.rules.specs.declared.trail.Parcel.{Parcel}
 use Rattle.rules.specs.Game as rules
 use Rattle.rules.specs.Game.{Setting}
 use Rattle.rules.specs.Single.{Step}
-use Rattle.rules.specs.Calls.{Lent, After, Answer, accepted, refused}
+use Rattle.rules.specs.Calls.{After, Answer, accepted, refused}
 use Rattle.game.specs.declared.board.Game.{Game}
 
 -- the states and numbers of its rows, and the trays that its mail means
@@ -44,10 +40,6 @@ after_tap r g = record { answer = tap_answer r; game = g; changes = []; parcels 
 -- every piece in state 0 with all numbers 0, and no messages
 abbrev pub unmoved : rules.Game
 unmoved = record { states = λ p. 0; numbers = λ p a. pos 0; trays = no_messages }
-
--- the places of the two trails that are lent
-abbrev pub lent : Trail Change → Trail Parcel → Lent
-lent c p = record { changes = room c; parcels = room p }
 
 abbrev pub strike_answer : Result ℕ StrikeFault → Answer
 strike_answer (Ok n) = accepted n

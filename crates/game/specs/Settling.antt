@@ -7,6 +7,7 @@ use Rattle.level.specs.Places.{Placed, placed}
 use Rattle.level.specs.Syntax.{Level}
 use Rattle.level.specs.Tables.{nth}
 use Rattle.evaluator.specs.Rows.{entered, written}
+use Rattle.evaluator.specs.Trails.{Lists}
 use Rattle.rules.specs.declared.moves.Act.{Act}
 use Rattle.rules.specs.declared.moves.Act.TheVariants.{Transition, Discard}
 use Rattle.rules.specs.declared.moves.Move.{Move}
@@ -58,9 +59,9 @@ module _ (L : Level) where
   made_all g ms = record { states = moved_all g.states ms; numbers = g.numbers; trays = taken_all g.trays ms }
 
 -- the moves, then the changes and the parcels
-abbrev pub settled : Setting → Game → List Move → List Change → List Parcel → Game
-settled S g ms cs ps = record {
+abbrev pub settled : Setting → Game → List Move → Lists → Game
+settled S g ms t = record {
   states = moved_all S.level g.states ms;
-  numbers = written_all g.numbers cs;
-  trays = put_all S.limit S.place (taken_all S.level g.trays ms) ps;
+  numbers = written_all g.numbers t.changes;
+  trays = put_all S.limit S.place (taken_all S.level g.trays ms) t.parcels;
 }

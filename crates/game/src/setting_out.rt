@@ -15,10 +15,11 @@ use mail::Mail;
 fn first_numbers(level: &Level, piece: u8) -> [i32; 8]
     ensures { result ≡ row_start (nth (meaning level.now).pieces piece) }
 {
-    match level.piece(piece as usize) {
-        Some(entry) => entry.starts,
-        None => [0; 8],
-    }
+    // Not by `map_or`: of a closure that answers an array the check learns nothing.
+    let Some(entry) = level.piece(piece as usize) else {
+        return [0; 8];
+    };
+    entry.starts
 }
 
 impl<M: Mail> Game<M> {

@@ -4,11 +4,13 @@ ghost use Rattle.level.specs.Levels.{meaning};
 ghost use Rattle.rules.specs.declared.moves.Act.TheVariants.{Transition};
 ghost use Rattle.rules.specs.Calls.{front_moves};
 ghost use Rattle.evaluator.specs.Rows.{states_of, numbers_of};
+ghost use Rattle.evaluator.specs.Trails.{lists};
 ghost use Rattle.game.specs.Games.{means, setting};
 ghost use Rattle.game.specs.Settling.{written_all, put_all, made, made_all, settled};
 
 use crate::board::Game;
 use evaluator::table::Table;
+use evaluator::trail::Trails;
 use level::Level;
 use mail::Mail;
 use rules::moves::{Act, Move, Moves};
@@ -69,17 +71,12 @@ impl<M: Mail> Game<M> {
     }
 
     // All messages are taken before the first is put.
-    pub(crate) fn settle(
-        &mut self,
-        level: &Level,
-        moves: &[u8],
-        changes: &[Change],
-        parcels: &[Parcel],
-    )
-        ensures { means M.Mail.trays self.new ≡ settled (setting (meaning level.now) M.Mail.LIMIT M.Mail.place) (means M.Mail.trays self.old) (front_moves moves.now) changes.now parcels.now }
+    pub(crate) fn settle(&mut self, level: &Level, moves: &[u8], trails: &Trails)
+        ensures { means M.Mail.trays self.new
+            ≡ settled (setting (meaning level.now) M.Mail.LIMIT M.Mail.place) (means M.Mail.trays self.old) (front_moves moves.now) (lists trails.now) }
     {
         self.make_all(level, moves);
-        write_all(&mut self.table, changes);
-        put_all(&mut self.mail, parcels);
+        write_all(&mut self.table, trails.changes.entries());
+        put_all(&mut self.mail, trails.parcels.entries());
     }
 }

@@ -1,10 +1,16 @@
+use Rattle.std.proofs.Common.{replicate, pos, ap, ◌∙◌}
+use Rattle.std.specs.Option.{option_map_or}
 use Rattle.level.specs.Levels.{meaning}
 use Rattle.level.specs.Sound.{counts}
-use Rattle.game.proofs.Rows.{start_some, start_none}
+use Rattle.game.proofs.Rows.{start_of}
 use Rattle.game.proofs.setting_out.first_numbers.Goals as goal
 
-pub returns-in-Some : goal.returns-in-Some
-returns-in-Some c = let L = meaning c.args.level.now in start_some (counts L.kinds) L.pieces c.args.piece c.in-Some.entry c.in-Some.ensures
+pub returns-in_default : goal.returns-in_default
+returns-in_default c =
+    let L = meaning c.args.level.now in
+    ap (λ o. option_map_or (λ e. e.starts) o (replicate 8 (pos 0))) c.in_default.ensures ∙ start_of (counts L.kinds) L.pieces c.args.piece
 
-pub returns-in-None : goal.returns-in-None
-returns-in-None c = let L = meaning c.args.level.now in start_none (counts L.kinds) L.pieces c.args.piece c.in-None.ensures
+pub returns : goal.returns
+returns c =
+    let L = meaning c.args.level.now in
+    ap (λ o. option_map_or (λ e. e.starts) o (replicate 8 (pos 0))) c.in-Some.ensures ∙ start_of (counts L.kinds) L.pieces c.args.piece
