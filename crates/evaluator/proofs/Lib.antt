@@ -1,3 +1,4 @@
+pub mod Naming
 pub mod Cells
 pub mod Noting
 pub mod Looking
