@@ -5,7 +5,7 @@ ghost use Rattle.std.specs.Prelude.{◌≡◌, length};
 
 // Whether a piece has moved, and whether a message was taken from its tray.
 #[derive(Clone, Copy, Default)]
-pub struct Note {
+struct Note {
     moved: bool,
     took: bool,
 }
