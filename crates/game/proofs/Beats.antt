@@ -12,7 +12,7 @@ use Rattle.rules.proofs.Trails.{trails_suffice}
 use Rattle.evaluator.specs.Judging.{grown, checked, earlier_of}
 use Rattle.evaluator.specs.Meeting.{lists_or}
 use Rattle.evaluator.specs.Trails.{Lists}
-use Rattle.game.specs.Judged.{all_lists, empty, judged, judged_all, lists_if}
+use Rattle.game.specs.Judged.{all_lists, empty, judged_by, all_judged_by, lists_if}
 
 -- a move that the trails show as accepted or refused was judged so
 passes : {X : Type 0} (r : Result X Why) (u v : Lists) (c : Check Why) → lists_or r u ≡ checked c v → is_ok r ≡ true → (c ≡ pass) × (u ≡ v)
@@ -33,16 +33,16 @@ module _ (limit : ℕ) (L : Level) (g : Game) (s : Earlier) (t : Lists) (i : ℕ
   d = deed L g m
 
   -- a refused move ends it
-  pub stops : {X : Type 0} (r : Result X Why) (u : Lists) → lists_or r u ≡ judged limit L g s t m → (w : Why) → r ≡ Err w
-      → Err (record { place = i; moving = m; why = w }) ≡ judged_all limit L g s t i (m ∷ ms)
+  pub stops : {X : Type 0} (r : Result X Why) (u : Lists) → lists_or r u ≡ judged_by limit L g s t m → (w : Why) → r ≡ Err w
+      → Err (record { place = i; moving = m; why = w }) ≡ all_judged_by limit L g s t i (m ∷ ms)
   stops r u f w k = let e = sym (ap (λ x. lists_or x u) k) ∙ f in sym (ap (λ c. lists_if (in_turn limit g c i m (judge_all limit g L (and_so s d) (suc i) ms)) (all_lists L g t (m ∷ ms))) (fails w _ (judge limit g s d) e))
 
   -- an accepted one is followed by the others, and has made at most ten changes and sent at most eight parcels
-  module _ {X : Type 0} (r : Result X Why) (u : Lists) (e : lists_or r u ≡ judged limit L g s t m) (k : is_ok r ≡ true) where
+  module _ {X : Type 0} (r : Result X Why) (u : Lists) (e : lists_or r u ≡ judged_by limit L g s t m) (k : is_ok r ≡ true) where
     grew : (judge limit g s d ≡ pass) × (u ≡ grown t d.events)
     grew = passes r u (grown t d.events) (judge limit g s d) e k
 
-    pub goes_on : judged_all limit L g s t i (m ∷ ms) ≡ judged_all limit L g (and_so s d) u (suc i) ms
+    pub goes_on : all_judged_by limit L g s t i (m ∷ ms) ≡ all_judged_by limit L g (and_so s d) u (suc i) ms
     goes_on = ap (λ c. lists_if (in_turn limit g c i m (judge_all limit g L (and_so s d) (suc i) ms)) (all_lists L g t (m ∷ ms))) grew.0
         ∙ ap (lists_if (judge_all limit g L (and_so s d) (suc i) ms)) (sym (ap (λ v. all_lists L g v ms) grew.1
         ∙ (λ j. record { changes = append_assoc t.changes (changes_of d.events) (changes (map (deed L g) ms)) j; parcels = append_assoc t.parcels (parcels_of d.events) (parcels (map (deed L g) ms)) j })))

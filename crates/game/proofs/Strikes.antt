@@ -15,7 +15,7 @@ use Rattle.rules.specs.Single.{Step}
 use Rattle.rules.proofs.Single.{fire_is_a_step}
 use Rattle.evaluator.specs.Trails.{Lists}
 use Rattle.game.specs.Games.{after_strike, EndsAsEnabled, strike_answer}
-use Rattle.game.specs.Judged.{all_lists, counted, empty, judged_all, lists_if}
+use Rattle.game.specs.Judged.{all_lists, counted, empty, all_judged_by, lists_if}
 use Rattle.game.specs.Settling.{settled}
 use Rattle.game.proofs.Counting.{count_is}
 use Rattle.game.proofs.Fronts.{moves_front}
@@ -59,11 +59,11 @@ module _ (S : Setting) (g : Game) (t : Lent) (bs : List ℕ) where
       abbrev all : Lists
       all = all_lists S.level g empty (front_moves bs)
 
-      pub stopped : (f : MoveFault) → Err f ≡ judged_all S.limit S.level g nothing empty 0 (front_moves bs) → refuse (Strike (AtMove f)) g ≡ C
+      pub stopped : (f : MoveFault) → Err f ≡ all_judged_by S.limit S.level g nothing empty 0 (front_moves bs) → refuse (Strike (AtMove f)) g ≡ C
       stopped f k = sym (begun ∙ ap (struck S g ms) (bad J all f k))
 
       -- accepted, the game settled and the trails are what the rules say
-      pub made : Sound S.level → Within S.limit g → (u : Lists) → Ok u ≡ judged_all S.limit S.level g nothing empty 0 (front_moves bs)
+      pub made : Sound S.level → Within S.limit g → (u : Lists) → Ok u ≡ all_judged_by S.limit S.level g nothing empty 0 (front_moves bs)
           → after_strike (Ok n) (settled S g (front_moves bs) u) u ≡ C
       made sound within u k =
           let (passes, lists) = good J u all k in

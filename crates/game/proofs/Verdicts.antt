@@ -4,7 +4,7 @@ use Rattle.std.proofs.lemmas.Bool.{eq-eqb}
 use Rattle.std.proofs.lemmas.Bool.Decides.{nat_tests}
 use Rattle.mail.specs.declared.message.Message.{Message}
 use Rattle.mail.specs.Trays.{front}
-use Rattle.mail.specs.Trays as mail
+use Rattle.mail.specs.declared.Mail.{Ghosts}
 use Rattle.level.specs.declared.store.Level as memory
 use Rattle.game.specs.declared.board.Game as memory_game
 use Rattle.level.specs.declared.entry.PieceEntry.{PieceEntry}
@@ -38,7 +38,7 @@ use Rattle.evaluator.specs.Trying.{discarded}
 use Rattle.evaluator.proofs.Trying.{nth_below}
 use Rattle.evaluator.proofs.Bridge.{Finds, transit_judged, taking_judged, discard_judged, earlier_more}
 use Rattle.game.specs.Games.{means}
-use Rattle.game.specs.Judged.{entry_of, bearing, awaited, before, judged, Roomy}
+use Rattle.game.specs.Judged.{entry_of, bearing, awaited, before, judged_by, Roomy}
 use Rattle.game.proofs.Finding.{entry_some, stands_in, has_piece, piece_some}
 
 module _ (A : Around) (g : Game) (s : Earlier) (t : Lists) (finds : Finds A s t) (numbers : A.board.numbers ≡ g.numbers)
@@ -149,12 +149,15 @@ pub has_row : (l : memory.Level) (p : ℕ) (y : Piece) → nth (meaning l).piece
 has_row l p y e = let a = nth_below (meaning l).pieces p y e in let b = few_pieces l in omega arith
 
 -- one move of piece p, as the code comes by it: n is what is noted before it, and n' what is noted then, and t are the trails before it
-module _ {M : Type 0} (trays : M → mail.Trays) (limit : ℕ) (l : memory.Level) (G : memory_game.Game M) (n n' : Listed) (t : Trails) (p written sent : ℕ) where
+module _ {M : Type 0} (mail : Ghosts M) (l : memory.Level) (G : memory_game.Game M) (n n' : Listed) (t : Trails) (p written sent : ℕ) where
+  abbrev limit : ℕ
+  limit = mail.LIMIT
+
   abbrev L : Level
   L = meaning l
 
   abbrev g : Game
-  g = means trays G
+  g = means mail G
 
   abbrev At : Around
   At = record { level = L; board = board_of G.table; mover = p; written = written; sent = sent; left = λ q. left_in g q (took_in n' q); limit = limit; places = places t }
@@ -190,14 +193,14 @@ module _ {M : Type 0} (trays : M → mail.Trays) (limit : ℕ) (l : memory.Level
       mover_is : d.mover ≡ p
       mover_is = ap (λ y. (transit_deed L g p y).mover) it.1
 
-      transition_verdict : lists_or r (lists u) ≡ judged limit L g (before n t) (lists t) (record { piece = p; act = Transition number })
+      transition_verdict : lists_or r (lists u) ≡ judged_by limit L g (before n t) (lists t) (record { piece = p; act = Transition number })
       transition_verdict =
           did ∙ transition_judged At g (before n t) (lists t) found_at refl roomy.0 roomy.1 (held_sound l) number it.0 it.1 (stands_in L p number it.0 it.1) (sym unmoved)
           (there ∙ ap (λ z. z.source) it.2)
           (λ q. taking takes few k q ∙ ap (λ c. left_in g q (took_in n q || (c && eqb p q))) (trigger ∙ ap (λ z. not (eqb z 0)) signal))
           o (w ∙ ap (λ z. awaited z (ltb 0 (parcels_to (held t.parcels) p)) (front (g.trays p))) signal)
 
-      pub transition_judgement : (lists_or r (lists u) ≡ judged limit L g (before n t) (lists t) (record { piece = p; act = Transition number })) × (is_ok r ≡ true → before n' u ≡ and_so (before n t) d)
+      pub transition_judgement : (lists_or r (lists u) ≡ judged_by limit L g (before n t) (lists t) (record { piece = p; act = Transition number })) × (is_ok r ≡ true → before n' u ≡ and_so (before n t) d)
       transition_judgement = (
         transition_verdict,
         λ y. one_more (moved_in n) (took_in n) (moved_in n') (took_in n') (lists t) (lists u) d (subst (λ z. z < 32) (sym mover_is) few)
@@ -229,7 +232,7 @@ module _ {M : Type 0} (trays : M → mail.Trays) (limit : ℕ) (l : memory.Level
       as_lists (Ok x) = refl
       as_lists (Err w) = refl
 
-      discard_verdict : lists_or r (lists t) ≡ judged limit L g (before n t) (lists t) (record { piece = p; act = Discard })
+      discard_verdict : lists_or r (lists t) ≡ judged_by limit L g (before n t) (lists t) (record { piece = p; act = Discard })
       discard_verdict =
           as_lists r ∙ ap (λ z. follow z (λ u. Ok (lists t))) did
           ∙ ap (λ z. follow (discarded (held t.changes) (unwanted L (board_of G.table) p z (g.states p) message (placed L))) (λ u. Ok (lists t))) the.2
@@ -239,7 +242,7 @@ module _ {M : Type 0} (trays : M → mail.Trays) (limit : ℕ) (l : memory.Level
       mover_of : away.mover ≡ p
       mover_of = ap (λ z. z.mover) is
 
-      pub discard_judgement : (lists_or r (lists t) ≡ judged limit L g (before n t) (lists t) (record { piece = p; act = Discard })) × (is_ok r ≡ true → before n' t ≡ and_so (before n t) away)
+      pub discard_judgement : (lists_or r (lists t) ≡ judged_by limit L g (before n t) (lists t) (record { piece = p; act = Discard })) × (is_ok r ≡ true → before n' t ≡ and_so (before n t) away)
       discard_judgement = (
         discard_verdict,
         λ y. one_more (moved_in n) (took_in n) (moved_in n') (took_in n') (lists t) (lists t) away (subst (λ z. z < 32) (sym mover_of) few_rows)

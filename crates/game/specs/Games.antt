@@ -1,9 +1,11 @@
 -- What a game in memory means, and what a call on it answers.
 use Rattle.std.specs.Prelude.{◌≡◌, ℕ, List, [], replicate, ℤ, pos, Some, None, Ok, Err, Option, Result}
-use Rattle.mail.specs.declared.message.Message.{Message}
-use Rattle.mail.specs.Trays.{Trays, no_messages}
+use Rattle.mail.specs.declared.Mail.{Ghosts}
+use Rattle.mail.specs.Trays.{no_messages}
 use Rattle.level.specs.Entries.{starting}
-use Rattle.level.specs.Syntax.{Piece, Level}
+use Rattle.level.specs.declared.store.Level as memory
+use Rattle.level.specs.Levels.{meaning}
+use Rattle.level.specs.Syntax.{Piece}
 use Rattle.evaluator.specs.Rows.{states_of, numbers_of}
 use Rattle.evaluator.specs.Trails.{Lists}
 use Rattle.rules.specs.declared.fault.CallFault.TheVariants.{Tap, Strike}
@@ -16,9 +18,9 @@ use Rattle.rules.specs.Single.{Step}
 use Rattle.rules.specs.Calls.{After, Answer, accepted, refused}
 use Rattle.game.specs.declared.board.Game.{Game}
 
--- the states and numbers of its rows, and the trays that its mail means
-abbrev pub means : {M : Type 0} → (M → Trays) → Game M → rules.Game
-means trays g = record { states = states_of g.table; numbers = numbers_of g.table; trays = trays g.mail }
+-- the states and numbers of its rows, and the trays that its mail means. `mail` is what the trait says of that kind of mail
+abbrev pub means : {M : Type 0} → Ghosts M → Game M → rules.Game
+means mail g = record { states = states_of g.table; numbers = numbers_of g.table; trays = mail.trays g.mail }
 
 -- the eight numbers of a row as they start; a row without a piece has zeros
 abbrev pub row_start : Option Piece → List ℤ
@@ -26,8 +28,8 @@ row_start None = replicate 8 (pos 0)
 row_start (Some x) = starting x.starts
 
 -- the level lent, and the mail's limit and rule of placing
-abbrev pub setting : Level → ℕ → (List Message → Message → ℕ) → Setting
-setting L limit place = record { level = L; limit = limit; place = place }
+abbrev pub setting : {M : Type 0} → Ghosts M → memory.Level → Setting
+setting mail level = record { level = meaning level; limit = mail.LIMIT; place = mail.place }
 
 abbrev pub tap_answer : Result ℕ TapFault → Answer
 tap_answer (Ok n) = accepted n

@@ -1,9 +1,12 @@
 -- What the code's judging answers, step by step. This is scaffolding between the rules and the code: no public promise speaks of it.
 use Rattle.std.specs.Prelude.{ℕ, ◌+◌, ◌≤◌, Bool, cond, ◌&&◌, List, [], ◌++◌, map, length, Some, None, Ok, Err, Option, Result, ◌==◌, nat_le}
+use Rattle.mail.specs.declared.Mail.{Ghosts}
 use Rattle.mail.specs.declared.message.Message.{Message}
 use Rattle.level.specs.declared.entry.TransitionEntry.{TransitionEntry}
 use Rattle.level.specs.Entries.{transition_entry}
 use Rattle.level.specs.Places.{Placed}
+use Rattle.level.specs.declared.store.Level as memory
+use Rattle.level.specs.Levels.{meaning}
 use Rattle.level.specs.Syntax.{Level}
 use Rattle.rules.specs.declared.fault.StrikeFault.{StrikeFault}
 use Rattle.rules.specs.declared.fault.StrikeFault.TheVariants.{NotMoves}
@@ -11,15 +14,17 @@ use Rattle.rules.specs.declared.fault.MoveFault.{MoveFault}
 use Rattle.rules.specs.declared.fault.Why.{Why}
 use Rattle.rules.specs.declared.fault.Why.TheVariants.{NoMessage, Clash}
 use Rattle.rules.specs.declared.moves.Move.{Move}
-use Rattle.rules.specs.Beat.{Earlier, judge, judge_all, changes, parcels}
+use Rattle.rules.specs.Beat.{Earlier, judge, judge_all, nothing, changes, parcels}
 use Rattle.rules.specs.Checks.{Check, pass, fail}
-use Rattle.rules.specs.Deed.{deed}
+use Rattle.rules.specs.Deed.{Deed, deed}
 use Rattle.rules.specs.Game.{Game}
 use Rattle.evaluator.specs.declared.listed.Listed.{Listed}
 use Rattle.evaluator.specs.declared.trail.Trails.{Trails}
 use Rattle.evaluator.specs.Judging.{checked, earlier_of, grown}
 use Rattle.evaluator.specs.Listing.{moved_in, took_in}
 use Rattle.evaluator.specs.Trails.{Lists, held, lists, room}
+use Rattle.game.specs.declared.board.Game as memory_game
+use Rattle.game.specs.Games.{means}
 
 -- what the index holds of a transition, if there is one
 abbrev pub entry_of : Option Placed → Option TransitionEntry
@@ -65,14 +70,24 @@ Roomy t = (length (held t.changes) + 10 ≤ room t.changes) × (length (held t.p
 abbrev pub all_lists : Level → Game → Lists → List Move → Lists
 all_lists L g t ms = record { changes = t.changes ++ changes (map (deed L g) ms); parcels = t.parcels ++ parcels (map (deed L g) ms) }
 
-module _ (limit : ℕ) (L : Level) (g : Game) where
-  -- a move after earlier ones that left t in the trails: refused, or what is then in them
-  abbrev pub judged : Earlier → Lists → Move → Result Lists Why
-  judged s t m = checked (judge limit g s (deed L g m)) (grown t (deed L g m).events)
+-- a move after earlier ones that left t in the trails: refused, or what is then in them
+abbrev pub judged_by : ℕ → Level → Game → Earlier → Lists → Move → Result Lists Why
+judged_by limit L g s t m = checked (judge limit g s (deed L g m)) (grown t (deed L g m).events)
 
-  -- the same for a list of moves, the first of which has place i
-  abbrev pub judged_all : Earlier → Lists → ℕ → List Move → Result Lists MoveFault
-  judged_all s t i ms = lists_if (judge_all limit g L s i ms) (all_lists L g t ms)
+-- the same for a list of moves, the first of which has place i
+abbrev pub all_judged_by : ℕ → Level → Game → Earlier → Lists → ℕ → List Move → Result Lists MoveFault
+all_judged_by limit L g s t i ms = lists_if (judge_all limit g L s i ms) (all_lists L g t ms)
+
+module _ {M : Type 0} (mail : Ghosts M) (level : memory.Level) (game : memory_game.Game M) where
+  -- what a move comes to on the game in memory, and how it is judged there; and how a whole list is, with nothing before it
+  abbrev pub deed_of : Move → Deed
+  deed_of m = deed (meaning level) (means mail game) m
+
+  abbrev pub judged : Listed → Trails → Move → Result Lists Why
+  judged n t m = judged_by mail.LIMIT (meaning level) (means mail game) (before n t) (lists t) m
+
+  abbrev pub all_judged : List Move → Result Lists MoveFault
+  all_judged ms = all_judged_by mail.LIMIT (meaning level) (means mail game) nothing empty 0 ms
 
 -- how many moves there are, 1 to 16
 abbrev pub counted : Option (List Move) → Result ℕ StrikeFault

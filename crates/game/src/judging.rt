@@ -4,13 +4,11 @@ ghost use Rattle.mail.specs.Trays.{front};
 ghost use Rattle.level.specs.Levels.{meaning};
 ghost use Rattle.rules.specs.declared.moves.Act.TheVariants.{Transition, Discard};
 ghost use Rattle.rules.specs.Beat.{and_so};
-ghost use Rattle.rules.specs.Deed.{deed};
 ghost use Rattle.rules.specs.Names.{transition_of};
 ghost use Rattle.evaluator.specs.Lookup.{parcels_to};
 ghost use Rattle.evaluator.specs.Meeting.{lists_or};
 ghost use Rattle.evaluator.specs.Trails.{KeptBoth, held, lists};
-ghost use Rattle.game.specs.Games.{means};
-ghost use Rattle.game.specs.Judged.{awaited, before, entry_of, judged, Roomy};
+ghost use Rattle.game.specs.Judged.{awaited, before, deed_of, entry_of, judged, Roomy};
 
 use crate::board::Game;
 use evaluator::listed::Listed;
@@ -64,9 +62,9 @@ impl<M: Mail> Game<M> {
     ) -> Result<(), Why>
         requires { Roomy trails.old }
         ensures lists { lists_or result (lists trails.new)
-            ≡ judged M.Mail.LIMIT (meaning level.now) (means M.Mail.trays self.now) (before listed.old trails.old) (lists trails.old) (record { piece = piece; act = Transition number }) }
+            ≡ judged M.Mail level.now self.now listed.old trails.old (record { piece = piece; act = Transition number }) }
         ensures earlier { is_ok result ≡ true → before listed.new trails.new
-            ≡ and_so (before listed.old trails.old) (deed (meaning level.now) (means M.Mail.trays self.now) (record { piece = piece; act = Transition number })) }
+            ≡ and_so (before listed.old trails.old) (deed_of M.Mail level.now self.now (record { piece = piece; act = Transition number })) }
         ensures kept { KeptBoth trails.old trails.new }
     {
         let Some(found) = transition_of(level, piece, number) else {
@@ -102,9 +100,9 @@ impl<M: Mail> Game<M> {
     ) -> Result<(), Why>
         requires { Roomy trails.now }
         ensures lists { lists_or result (lists trails.now)
-            ≡ judged M.Mail.LIMIT (meaning level.now) (means M.Mail.trays self.now) (before listed.old trails.now) (lists trails.now) (record { piece = piece; act = Discard }) }
+            ≡ judged M.Mail level.now self.now listed.old trails.now (record { piece = piece; act = Discard }) }
         ensures earlier { is_ok result ≡ true → before listed.new trails.now
-            ≡ and_so (before listed.old trails.now) (deed (meaning level.now) (means M.Mail.trays self.now) (record { piece = piece; act = Discard })) }
+            ≡ and_so (before listed.old trails.now) (deed_of M.Mail level.now self.now (record { piece = piece; act = Discard })) }
     {
         let Some(entry) = level.piece(piece as usize) else {
             return Err(Why::Unknown);
@@ -142,9 +140,9 @@ impl<M: Mail> Game<M> {
     ) -> Result<(), Why>
         requires { Roomy trails.old }
         ensures lists { lists_or result (lists trails.new)
-            ≡ judged M.Mail.LIMIT (meaning level.now) (means M.Mail.trays self.now) (before listed.old trails.old) (lists trails.old) moving }
+            ≡ judged M.Mail level.now self.now listed.old trails.old moving }
         ensures earlier { is_ok result ≡ true → before listed.new trails.new
-            ≡ and_so (before listed.old trails.old) (deed (meaning level.now) (means M.Mail.trays self.now) moving) }
+            ≡ and_so (before listed.old trails.old) (deed_of M.Mail level.now self.now moving) }
         ensures kept { KeptBoth trails.old trails.new }
     {
         match moving.act {

@@ -25,7 +25,7 @@ fn first_numbers(level: &Level, piece: u8) -> [i32; 8]
 impl<M: Mail> Game<M> {
     // Every piece in state 0 with all numbers 0. The mail is emptied, so no message comes in but by a call on the game.
     pub fn new(mail: M) -> Self
-        ensures { means M.Mail.trays result ≡ unmoved }
+        ensures { means M.Mail result ≡ unmoved }
     {
         let mut game = Game {
             table: Table::new(),
@@ -37,8 +37,8 @@ impl<M: Mail> Game<M> {
 
     // Every piece in state 0 with its starting numbers, every tray empty. Runs from here keep the law over runs.
     pub fn set_out(&mut self, level: &Level)
-        ensures game { means M.Mail.trays self.new ≡ set_out (meaning level.now) }
-        ensures law { LawIn (setting (meaning level.now) M.Mail.LIMIT M.Mail.place) }
+        ensures game { means M.Mail self.new ≡ set_out (meaning level.now) }
+        ensures law { LawIn (setting M.Mail level.now) }
     {
         for piece in 0..32 {
             let numbers = first_numbers(level, piece);

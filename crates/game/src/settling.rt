@@ -38,7 +38,7 @@ fn put_all<M: Mail>(mail: &mut M, parcels: &[Parcel])
 impl<M: Mail> Game<M> {
     // A transition leaves its piece in its target state. It takes a message if it has a trigger.
     fn transit(&mut self, level: &Level, piece: u8, number: u8)
-        ensures { means M.Mail.trays self.new ≡ made (meaning level.now) (means M.Mail.trays self.old) (record { piece = piece; act = Transition number }) }
+        ensures { means M.Mail self.new ≡ made (meaning level.now) (means M.Mail self.old) (record { piece = piece; act = Transition number }) }
     {
         let Some(transition) = level.transition(number as usize) else {
             return;
@@ -51,7 +51,7 @@ impl<M: Mail> Game<M> {
 
     // One move. A discard takes a message and leaves its piece in the state that it has.
     fn make(&mut self, level: &Level, moving: Move)
-        ensures { means M.Mail.trays self.new ≡ made (meaning level.now) (means M.Mail.trays self.old) moving }
+        ensures { means M.Mail self.new ≡ made (meaning level.now) (means M.Mail self.old) moving }
     {
         match moving.act {
             Act::Transition(number) => self.transit(level, moving.piece, number),
@@ -63,7 +63,7 @@ impl<M: Mail> Game<M> {
 
     // The moves at the front of the bytes.
     fn make_all(&mut self, level: &Level, moves: &[u8])
-        ensures { means M.Mail.trays self.new ≡ made_all (meaning level.now) (means M.Mail.trays self.old) (front_moves moves.now) }
+        ensures { means M.Mail self.new ≡ made_all (meaning level.now) (means M.Mail self.old) (front_moves moves.now) }
     {
         for moving in Moves::new(moves) {
             self.make(level, moving);
@@ -72,8 +72,8 @@ impl<M: Mail> Game<M> {
 
     // All messages are taken before the first is put.
     pub(crate) fn settle(&mut self, level: &Level, moves: &[u8], trails: &Trails)
-        ensures { means M.Mail.trays self.new
-            ≡ settled (setting (meaning level.now) M.Mail.LIMIT M.Mail.place) (means M.Mail.trays self.old) (front_moves moves.now) (lists trails.now) }
+        ensures { means M.Mail self.new
+            ≡ settled (setting M.Mail level.now) (means M.Mail self.old) (front_moves moves.now) (lists trails.now) }
     {
         self.make_all(level, moves);
         write_all(&mut self.table, trails.changes.entries());

@@ -1,12 +1,10 @@
 // Firing one move, and striking a beat.
 ghost use Rattle.std.specs.Prelude.{◌≡◌, ◌≤◌, true, length, is_ok};
-ghost use Rattle.level.specs.Levels.{meaning};
-ghost use Rattle.rules.specs.Beat.{nothing};
 ghost use Rattle.rules.specs.Calls.{call, fire, front_moves, full, move_of, moves_of, strike};
 ghost use Rattle.rules.specs.Single.{Step};
 ghost use Rattle.evaluator.specs.Trails.{KeptBoth, lists, places};
-ghost use Rattle.game.specs.Games.{after_strike, EndsAsEnabled, means, setting, strike_answer};
-ghost use Rattle.game.specs.Judged.{counted, empty, judged_all, left_after, with_trails};
+ghost use Rattle.game.specs.Games.{after_strike, EndsAsEnabled, means, setting};
+ghost use Rattle.game.specs.Judged.{all_judged, counted, empty, left_after, with_trails};
 
 use crate::board::Game;
 use evaluator::listed::Listed;
@@ -41,7 +39,7 @@ impl<M: Mail> Game<M> {
         requires empty { lists trails.old ≡ empty }
         requires full { full (places trails.old) ≡ true }
         ensures lists { with_trails result (lists trails.new)
-            ≡ judged_all M.Mail.LIMIT (meaning level.now) (means M.Mail.trays self.now) nothing empty 0 (front_moves moves.now) }
+            ≡ all_judged M.Mail level.now self.now (front_moves moves.now) }
         ensures kept { KeptBoth trails.old trails.new }
     {
         let mut listed = Listed::new();
@@ -60,8 +58,8 @@ impl<M: Mail> Game<M> {
         trails: &mut Trails,
     ) -> Result<usize, StrikeFault>
         requires { lists trails.old ≡ empty }
-        ensures call { after_strike result (means M.Mail.trays self.new) (left_after result (lists trails.new))
-            ≡ call (setting (meaning level.now) M.Mail.LIMIT M.Mail.place) (means M.Mail.trays self.old) (strike (places trails.old) moves.now) }
+        ensures call { after_strike result (means M.Mail self.new) (left_after result (lists trails.new))
+            ≡ call (setting M.Mail level.now) (means M.Mail self.old) (strike (places trails.old) moves.now) }
         ensures kept { KeptBoth trails.old trails.new }
     {
         if !full(trails) {
@@ -81,8 +79,8 @@ impl<M: Mail> Game<M> {
         moves: &[u8],
         trails: &mut Trails,
     ) -> Result<usize, StrikeFault>
-        ensures call { after_strike result (means M.Mail.trays self.new) (lists trails.new)
-            ≡ call (setting (meaning level.now) M.Mail.LIMIT M.Mail.place) (means M.Mail.trays self.old) (strike (places trails.old) moves.now) }
+        ensures call { after_strike result (means M.Mail self.new) (lists trails.new)
+            ≡ call (setting M.Mail level.now) (means M.Mail self.old) (strike (places trails.old) moves.now) }
         ensures lent { KeptBoth trails.old trails.new }
     {
         trails.clear();
@@ -102,13 +100,13 @@ impl<M: Mail> Game<M> {
         transition: u8,
         trails: &mut Trails,
     ) -> Result<usize, StrikeFault>
-        ensures call { after_strike result (means M.Mail.trays self.new) (lists trails.new)
-            ≡ call (setting (meaning level.now) M.Mail.LIMIT M.Mail.place) (means M.Mail.trays self.old) (fire (places trails.old) piece transition) }
+        ensures call { after_strike result (means M.Mail self.new) (lists trails.new)
+            ≡ call (setting M.Mail level.now) (means M.Mail self.old) (fire (places trails.old) piece transition) }
         ensures lent { KeptBoth trails.old trails.new }
         ensures step { is_ok result ≡ true
-            → Step (setting (meaning level.now) M.Mail.LIMIT M.Mail.place) (means M.Mail.trays self.old) (move_of piece transition) (means M.Mail.trays self.new) }
+            → Step (setting M.Mail level.now) (means M.Mail self.old) (move_of piece transition) (means M.Mail self.new) }
         ensures enabled { full (places trails.old) ≡ true
-            → EndsAsEnabled (setting (meaning level.now) M.Mail.LIMIT M.Mail.place) (means M.Mail.trays self.old) (move_of piece transition) result (means M.Mail.trays self.new) }
+            → EndsAsEnabled (setting M.Mail level.now) (means M.Mail self.old) (move_of piece transition) result (means M.Mail self.new) }
     {
         self.strike(level, &[0x51, piece, transition], trails)
     }

@@ -1,6 +1,5 @@
 // Tapping a piece.
 ghost use Rattle.std.specs.Prelude.{◌≡◌};
-ghost use Rattle.level.specs.Levels.{meaning};
 ghost use Rattle.rules.specs.Calls.{call, fits, tap};
 ghost use Rattle.game.specs.Games.{after_tap, means, setting};
 
@@ -24,8 +23,8 @@ fn fits(parameters: u8, message: Message) -> bool
 impl<M: Mail> Game<M> {
     // Puts one message into a piece's tray, and answers 1.
     pub fn tap(&mut self, level: &Level, piece: u8, message: Message) -> Result<usize, TapFault>
-        ensures call { after_tap result (means M.Mail.trays self.new)
-            ≡ call (setting (meaning level.now) M.Mail.LIMIT M.Mail.place) (means M.Mail.trays self.old) (tap piece message) }
+        ensures call { after_tap result (means M.Mail self.new)
+            ≡ call (setting M.Mail level.now) (means M.Mail self.old) (tap piece message) }
     {
         if piece as usize >= level.pieces() {
             return Err(TapFault::NoPiece);

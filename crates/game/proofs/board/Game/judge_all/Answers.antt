@@ -7,7 +7,7 @@ use Rattle.rules.specs.Calls.{front_moves}
 use Rattle.evaluator.specs.Listing.{moved_in, took_in}
 use Rattle.evaluator.specs.Trails.{lists}
 use Rattle.game.specs.Games.{means}
-use Rattle.game.specs.Judged.{before, judged_all, with_trails}
+use Rattle.game.specs.Judged.{before, all_judged_by, with_trails}
 use Rattle.game.proofs.Beats.{at_first, stops, goes_on, few_more, refused}
 use Rattle.game.proofs.board.Game.judge_all.Goals as goal
 
@@ -20,7 +20,7 @@ loop-place-init g c =
     let changes = ap (λ t. length t.changes) c.requires.empty in
     let parcels = ap (λ t. length t.parcels) c.requires.empty in
     record {
-      same = λ j. judged_all g.M.Mail.LIMIT (meaning c.args.level.now) (means g.M.Mail.trays c.args.self.now) (first j) (c.requires.empty j) (count j) (source j);
+      same = λ j. all_judged_by g.M.Mail.LIMIT (meaning c.args.level.now) (means g.M.Mail c.args.self.now) (first j) (c.requires.empty j) (count j) (source j);
       few = rw (source, count) (omega arith);
       changes = omega arith;
       parcels = omega arith;
@@ -36,7 +36,7 @@ loop-place-preserved g c =
     let u = lists c.judge.new.trails in
     let limit = g.M.Mail.LIMIT in
     let L = meaning c.args.level.now in
-    let G = means g.M.Mail.trays c.args.self.now in
+    let G = means g.M.Mail c.args.self.now in
     let s = before c.loop-place.listed c.loop-place.trails in
     let at = enumerate_count c.loop-place.place-iterator in
     let left = enumerate_source c.next.new.self in
@@ -49,7 +49,7 @@ loop-place-preserved g c =
     let written = i.changes in
     let sent = i.parcels in
     record {
-      same = (λ j. judged_all limit L G (c.judge.ensures.earlier ok j) u ((counted ∙ add-one at) j) left) ∙ sym on ∙ ap (judged_all limit L G s t at) (sym next.0) ∙ i.same;
+      same = (λ j. all_judged_by limit L G (c.judge.ensures.earlier ok j) u ((counted ∙ add-one at) j) left) ∙ sym on ∙ ap (all_judged_by limit L G s t at) (sym next.0) ∙ i.same;
       few = omega arith;
       changes = omega arith;
       parcels = omega arith;
@@ -65,10 +65,10 @@ returns-in_err-map_err-clause-lists g c =
     let u = lists c.judge.new.trails in
     let limit = g.M.Mail.LIMIT in
     let L = meaning c.args.level.now in
-    let G = means g.M.Mail.trays c.args.self.now in
+    let G = means g.M.Mail c.args.self.now in
     let s = before c.loop-place.listed c.loop-place.trails in
     let t = lists c.loop-place.trails in
     let at = enumerate_count c.loop-place.place-iterator in
     ap (λ r. with_trails r u) (p.1 ∙ ap Err (p.2 ∙ fault ∙ (λ j. record { place = next.1 j; moving = c.in-Some.moving; why = w })))
     ∙ stops limit L G s t at c.in-Some.moving (enumerate_source c.next.new.self) c.judge.result u c.judge.ensures.lists w is
-    ∙ ap (judged_all limit L G s t at) (sym next.0) ∙ c.loop-place.invariant.same
+    ∙ ap (all_judged_by limit L G s t at) (sym next.0) ∙ c.loop-place.invariant.same

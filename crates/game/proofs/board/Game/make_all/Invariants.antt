@@ -6,4 +6,4 @@ use Rattle.game.specs.Settling.{made_all}
 use Rattle.game.proofs.board.Game.make_all.Given as goal
 
 abbrev pub invariant-loop-moving : goal.invariant-loop-moving
-invariant-loop-moving g l = made_all (meaning l.level) (means g.M.Mail.trays l.self) l.moving-iterator ≡ made_all (meaning l.level) (means g.M.Mail.trays l.initial.self) (front_moves l.moves)
+invariant-loop-moving g l = made_all (meaning l.level) (means g.M.Mail l.self) l.moving-iterator ≡ made_all (meaning l.level) (means g.M.Mail l.initial.self) (front_moves l.moves)

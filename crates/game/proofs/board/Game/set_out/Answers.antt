@@ -19,5 +19,5 @@ returns g c = record {
       all_set (meaning c.args.level.now) c.loop-piece.self.table (few_pieces c.args.level.now) (λ p h. c.loop-piece.invariant p (omega arith)) _ c.clear.ensures;
   law =
       let mail = g.met.M.Mail in
-      runs_end_alike.law (setting (meaning c.args.level.now) g.M.Mail.LIMIT g.M.Mail.place) (record { least = mail.range.0; most = mail.range.1; placed = mail.within });
+      runs_end_alike.law (setting g.M.Mail c.args.level.now) (record { least = mail.range.0; most = mail.range.1; placed = mail.within });
 }
