@@ -477,7 +477,9 @@ mod tests {
         let mut change_places = [NO_CHANGE; 160];
         let mut parcel_places = [NO_PARCEL; 128];
         let mut trails = Trails::new(&mut change_places, &mut parcel_places);
-        assert!(rt; trails.changes.push(NO_CHANGE) && trails.parcels.push(NO_PARCEL));
+        assert!(rt;
+            trails.changes.push(NO_CHANGE).is_ok() && trails.parcels.push(NO_PARCEL).is_ok()
+        );
         game.tap(&level, 0, message(1, 7, 0))?;
         assert_eq!(rt;
             game.fire(&level, 0, 0, &mut trails),

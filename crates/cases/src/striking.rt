@@ -54,7 +54,9 @@ mod tests {
         let mut change_places = [NO_CHANGE; 160];
         let mut parcel_places = [NO_PARCEL; 128];
         let mut trails = Trails::new(&mut change_places, &mut parcel_places);
-        assert!(rt; trails.changes.push(NO_CHANGE) && trails.parcels.push(NO_PARCEL));
+        assert!(rt;
+            trails.changes.push(NO_CHANGE).is_ok() && trails.parcels.push(NO_PARCEL).is_ok()
+        );
         game.tap(&level, 0, message(1, 30, 0))?;
         assert_eq!(rt;
             game.strike(&level, b"\x51\x00\x00\x51\x01\x01", &mut trails),
@@ -162,7 +164,9 @@ mod tests {
         let mut change_places = [NO_CHANGE; 160];
         let mut parcel_places = [NO_PARCEL; 127];
         let mut trails = Trails::new(&mut change_places, &mut parcel_places);
-        assert!(rt; trails.changes.push(NO_CHANGE) && trails.parcels.push(NO_PARCEL));
+        assert!(rt;
+            trails.changes.push(NO_CHANGE).is_ok() && trails.parcels.push(NO_PARCEL).is_ok()
+        );
         assert_eq!(rt;
             game.strike(&level, b"", &mut trails),
             Err(StrikeFault::ShortTrail)
