@@ -21,7 +21,7 @@ pub(crate) const LAMP_AND_BELL: [u8; 69] = *b"\
     \x04\x01\x05\x00\x00\x00\x00\x07\
     \x06";
 
-// What memory for trails holds before a call fills it.
+// What memory for trails holds before a call fills it: of tests only, so no type derives a `Default` for it.
 pub(crate) const NO_CHANGE: Change = Change {
     piece: 0,
     number: 0,

@@ -4,7 +4,7 @@ mod rows;
 ghost use Rattle.std.specs.Prelude.{◌≡◌, length};
 
 // The row of one piece: its state and its eight numbers.
-#[derive(Clone, Copy)]
+#[derive(Clone, Copy, Default)]
 pub struct Row {
     pub state: u8,
     pub numbers: [i32; 8],

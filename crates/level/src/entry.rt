@@ -7,8 +7,8 @@ pub struct KindEntry {
     pub states: u8,
 }
 
-// A transition: its kind, states and signal (0: spontaneous), the own numbers that receive the signal's parameters, and where in
-// the level's bytes its guard and its effect stand.
+// A transition: its kind, states and signal (0: spontaneous, as the level's bytes and the rules number it), the own numbers that
+// receive the signal's parameters, and where in the level's bytes its guard and its effect stand.
 #[derive(Clone, Copy, Debug, Default, PartialEq, Eq)]
 pub struct TransitionEntry {
     pub kind: u8,

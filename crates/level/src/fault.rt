@@ -27,6 +27,7 @@ pub enum Reason {
     TooManyStatements,
 }
 
+// By hand, since what a derived `From` makes is not said by any clause.
 impl From<OperandFault> for Reason {
     ghost from_gives = { λ x y. y ≡ Operand x };
 
@@ -43,7 +44,7 @@ pub struct LevelFault {
 }
 
 impl LevelFault {
-    // The number of the refusal, 10 to 14.
+    // The number of the refusal, 10 to 14. A method and no `From`, since it says of what it is the number.
     pub fn number(&self) -> u8
         ensures { result ≡ number self.now }
     {

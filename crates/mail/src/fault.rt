@@ -13,6 +13,7 @@ pub enum MailFault {
 }
 
 impl MailFault {
+    // The number of the refusal, 60 to 62. A method and no `From`, since it says of what it is the number.
     pub fn number(self) -> u8
         ensures { result ≡ fault_number self }
     {

@@ -9,7 +9,7 @@ pub struct Message {
 }
 
 impl Message {
-    // What stands in a place where no message waits.
+    // What stands in a place where no message waits. A constant, and no `Default`, since it has a name of its own.
     pub const BLANK: Message = Message {
         signal: 0,
         first: 0,

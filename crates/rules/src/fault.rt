@@ -76,6 +76,7 @@ pub enum CallFault {
     Strike(StrikeFault),
 }
 
+// These are by hand, since what a derived `From` makes is not said by any clause.
 impl From<Stumble> for Why {
     ghost from_gives = { λ x y. y ≡ Stumbles x };
 
@@ -108,6 +109,7 @@ impl From<StrikeFault> for CallFault {
     }
 }
 
+// The numbers are methods and no `From`, since a method says of what it is the number.
 impl Cause {
     // 1 or 2.
     pub fn number(self) -> u8

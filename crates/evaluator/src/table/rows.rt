@@ -5,14 +5,6 @@ ghost use Rattle.evaluator.specs.Rows.{states_of, numbers_of, entered, written};
 use super::{Row, Table};
 use rules::trail::Change;
 
-impl Row {
-    // State 0 and zeros.
-    pub const BLANK: Row = Row {
-        state: 0,
-        numbers: [0; 8],
-    };
-}
-
 // A row that is changed is indexed after a test, since `get_mut` does not say what the rows are after its loan.
 impl Table {
     // Every piece in state 0 with all numbers 0.
@@ -20,7 +12,7 @@ impl Table {
         ensures { result.rows ≡ replicate 32 (record { state = 0; numbers = replicate 8 (pos 0) }) }
     {
         Table {
-            rows: [Row::BLANK; 32],
+            rows: [Row::default(); 32],
         }
     }
 
