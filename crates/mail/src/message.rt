@@ -9,7 +9,7 @@ pub struct Message {
 }
 
 impl Message {
-    // What stands in a place where no message waits. A constant, and no `Default`, since it has a name of its own.
+    // What stands in a place where no message waits. A constant, and no `Default`, so that other constants can hold it.
     pub const BLANK: Message = Message {
         signal: 0,
         first: 0,
