@@ -2,6 +2,7 @@
 
 #[cfg(test)]
 mod tests {
+    use crate::calling::LAMP_AND_BELL;
     use level::Level;
     use level::entry::{KindEntry, PieceEntry, TransitionEntry};
     use level::fault::{LevelFault, OperandFault, Reason};
@@ -15,10 +16,7 @@ mod tests {
 
     // What loading answers: how many pieces, or the number and the byte of the refusal.
     fn loading(bytes: &[u8]) -> Result<usize, (u8, usize)> {
-        match load_alone(bytes) {
-            Ok(pieces) => Ok(pieces),
-            Err(fault) => Err((fault.number(), fault.byte)),
-        }
+        load_alone(bytes).map_err(|fault| (fault.number(), fault.byte))
     }
 
     fn refused(rt: &impl Abort, bytes: &[u8], number: u8, byte: usize, note: &str) {
@@ -556,14 +554,11 @@ mod tests {
         Ok(())
     }
 
-    // The lamp and the bell: two kinds with a transition each, and a piece of each.
-    const LAMP_AND_BELL: &[u8] =
-        b"\x01\x01\x02\x01\x02\x03\x00\x01\x01\x00\xFF\x10\x00\x00\x00\x01\x00\x02\x01\x01\x03\x00\x00\x00\xFF\xFF\x1A\x13\x00\x10\x00\x00\x00\x00\x10\x00\x00\x00\x05\x20\x00\x14\x12\x00\x13\x00\x10\x00\x00\x00\x00\x00\x04\x00\x05\x00\x00\x00\x00\x02\x04\x01\x05\x00\x00\x00\x00\x07\x06";
-
     #[test]
     fn what_stands_where(rt: HostRuntime) {
+        let bytes = LAMP_AND_BELL;
         let mut level = Level::new();
-        assert_eq!(rt; level.load(LAMP_AND_BELL), Ok(2));
+        assert_eq!(rt; level.load(&bytes), Ok(2));
         assert_eq!(rt; level.code().len(), 69);
         assert_eq!(rt;
             (
@@ -617,9 +612,10 @@ mod tests {
 
     #[test]
     fn a_refused_load_keeps_the_level(rt: HostRuntime) {
+        let bytes = LAMP_AND_BELL;
         let mut level = Level::new();
         assert_eq!(rt; level.pieces(), 0);
-        assert_eq!(rt; level.load(LAMP_AND_BELL), Ok(2));
+        assert_eq!(rt; level.load(&bytes), Ok(2));
         assert!(rt; level.load(b"\x07").is_err());
         assert_eq!(rt; level.pieces(), 2);
         assert_eq!(rt; level.load(b"\x06"), Ok(0));

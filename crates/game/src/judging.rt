@@ -51,7 +51,8 @@ impl<M: Mail> Game<M> {
         }
     }
 
-    // A move of a piece by the transition of a number: the checks in their order, then its evaluation.
+    // A move of a piece by the transition of a number: the checks in their order, then its evaluation. What was noted and the trails
+    // stay two arguments, here and below: a discard changes the one and not the other.
     fn judge_transition(
         &self,
         level: &Level,

@@ -37,6 +37,7 @@ impl fmt::Display for Line<'_> {
         if self.numbers == 0 {
             f.write_str("-")?;
         }
+        // Each number is asked for by its index: a game lends no row.
         for index in 0..self.numbers {
             if index > 0 {
                 f.write_str(",")?;

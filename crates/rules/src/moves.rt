@@ -62,7 +62,7 @@ impl From<Act> for u8 {
 }
 
 impl Move {
-    // The move of a piece and the byte of a transition.
+    // The move of a piece and the byte of a transition. No `From` of a pair, since two bytes say less than two names.
     pub fn of_bytes(piece: u8, transition: u8) -> Move
         ensures { result ≡ move_of piece transition }
     {
