@@ -1,6 +1,6 @@
 -- A move is refused for a clash only where it clashes with an earlier one.
 use Rattle.std.proofs.Common.{◌≡◌, ℕ, suc, ◌+◌, Bool, true, false, cond, not, ◌&&◌, ◌||◌, eqb, ◌⊎◌, List, [], ◌∷◌, length, ℤ, Some, None, Ok, Err, Option, Result, sym, refl, ap, ◌∙◌, subst, inl, inr, ⊎_elim, arith}
-use Rattle.std.proofs.lemmas.Bool.{both_ways, or_cases, or_left, or_right, and_parts, eq-eqb}
+use Rattle.std.proofs.lemmas.Bool.{false≢true, or_cases, or_left, or_right, and_parts, eq-eqb}
 use Rattle.std.proofs.lemmas.Bool.Decides.{nat_tests}
 use Rattle.mail.specs.declared.message.Message.{Message}
 use Rattle.mail.specs.Trays.{front}
@@ -32,9 +32,6 @@ use Rattle.rules.specs.Theorems.{ClashesAreReal}
 abbrev Calm : {A : Type 0} → Trace A → Type 0
 Calm t = t.out ≡ Err Clash → ⊥
 
-no_way : {A : Type 0} → false ≡ true → A
-no_way e = absurd (both_ways false refl e)
-
 calm_onward : {A B : Type 0} (es : List Event) (o : Result A Why) (k : A → Trace B) → (o ≡ Err Clash → ⊥) → ((x : A) → Calm (k x)) → Calm (onward es o k)
 calm_onward es (Ok x) k h f e = f x e
 calm_onward es (Err w) k h f e = h cc
@@ -43,7 +40,7 @@ calm_bind : {A B : Type 0} (t : Trace A) (k : A → Trace B) → Calm t → ((x 
 calm_bind t k h f = calm_onward t.events t.out k h f
 
 calm_needing : {A B : Type 0} (c : Cause) (at : ℕ) (o : Option A) (k : A → Trace B) → ((x : A) → Calm (k x)) → Calm (needing c at o k)
-calm_needing c at None k f = λ e. no_way cc
+calm_needing c at None k f = λ e. absurd (false≢true cc)
 calm_needing c at (Some x) k f = f x
 
 calm_cond : {A : Type 0} (b : Bool) (t u : Trace A) → Calm t → Calm u → Calm (cond b t u)
@@ -51,35 +48,35 @@ calm_cond true t u h k = h
 calm_cond false t u h k = k
 
 calm_seen : (g : Game) (p a : ℕ) (o : Option ℤ) → Calm (seen g p a o)
-calm_seen g p a None e = no_way cc
-calm_seen g p a (Some v) e = no_way cc
+calm_seen g p a None e = absurd (false≢true cc)
+calm_seen g p a (Some v) e = absurd (false≢true cc)
 
 calm_guard : {A : Type 0} → Calm {A = A} (halt Guard)
-calm_guard e = no_way cc
+calm_guard e = absurd (false≢true cc)
 
 module _ (L : Level) (g : Game) (p : ℕ) where
   calm_evaluate : (o : Own) (at : ℕ) (e : Expr) → Calm (evaluate L g p o at e)
-  calm_evaluate o at (constant z) = λ e. no_way cc
-  calm_evaluate o at own_piece = λ e. no_way cc
+  calm_evaluate o at (constant z) = λ e. absurd (false≢true cc)
+  calm_evaluate o at own_piece = λ e. absurd (false≢true cc)
   calm_evaluate o at (own a) = calm_seen g p a (o p a)
   calm_evaluate o at (other a e) = calm_bind (evaluate L g p o (at + 2) e) _ (calm_evaluate o (at + 2) e) (λ v. calm_needing _ at (cell_named L v a) _ (λ q. calm_seen g q a (o q a)))
   calm_evaluate o at (binary op e f) = calm_bind (evaluate L g p o (at + 1) e) _ (calm_evaluate o (at + 1) e)
-      (λ v. calm_bind (evaluate L g p o (at + 1 + size e) f) _ (calm_evaluate o (at + 1 + size e) f) (λ w. calm_needing _ at (computed op v w) _ (λ x e. no_way cc)))
-  calm_evaluate o at (negation e) = calm_bind (evaluate L g p o (at + 1) e) _ (calm_evaluate o (at + 1) e) (λ v e. no_way cc)
+      (λ v. calm_bind (evaluate L g p o (at + 1 + size e) f) _ (calm_evaluate o (at + 1 + size e) f) (λ w. calm_needing _ at (computed op v w) _ (λ x e. absurd (false≢true cc))))
+  calm_evaluate o at (negation e) = calm_bind (evaluate L g p o (at + 1) e) _ (calm_evaluate o (at + 1) e) (λ v e. absurd (false≢true cc))
 
   calm_all : (o : Own) (at : ℕ) (es : List Expr) → Calm (evaluate_all L g p o at es)
-  calm_all o at [] = λ e. no_way cc
-  calm_all o at (e ∷ es) = calm_bind (evaluate L g p o at e) _ (calm_evaluate o at e) (λ v. calm_bind (evaluate_all L g p o (at + size e) es) _ (calm_all o (at + size e) es) (λ vs e. no_way cc))
+  calm_all o at [] = λ e. absurd (false≢true cc)
+  calm_all o at (e ∷ es) = calm_bind (evaluate L g p o at e) _ (calm_evaluate o at e) (λ v. calm_bind (evaluate_all L g p o (at + size e) es) _ (calm_all o (at + size e) es) (λ vs e. absurd (false≢true cc)))
 
   calm_run : (at : ℕ) (c : Stmt) (o : Own) → Calm (run L g p at c o)
-  calm_run at (assign a e) o = calm_bind (evaluate L g p o (at + 2) e) _ (calm_evaluate o (at + 2) e) (λ v e. no_way cc)
+  calm_run at (assign a e) o = calm_bind (evaluate L g p o (at + 2) e) _ (calm_evaluate o (at + 2) e) (λ v e. absurd (false≢true cc))
   calm_run at (store a e f) o = calm_bind (evaluate L g p o (at + 2) e) _ (calm_evaluate o (at + 2) e)
-      (λ v. calm_bind (evaluate L g p o (at + 2 + size e) f) _ (calm_evaluate o (at + 2 + size e) f) (λ w. calm_needing _ at (cell_named L v a) _ (λ q e. no_way cc)))
+      (λ v. calm_bind (evaluate L g p o (at + 2 + size e) f) _ (calm_evaluate o (at + 2 + size e) f) (λ w. calm_needing _ at (cell_named L v a) _ (λ q e. absurd (false≢true cc))))
   calm_run at (send s e es) o = calm_bind (evaluate L g p o (at + 2) e) _ (calm_evaluate o (at + 2) e)
-      (λ v. calm_bind (evaluate_all L g p o (at + 2 + size e) es) _ (calm_all o (at + 2 + size e) es) (λ vs. calm_needing _ at (piece_named L v) _ (λ q e. no_way cc)))
+      (λ v. calm_bind (evaluate_all L g p o (at + 2 + size e) es) _ (calm_all o (at + 2 + size e) es) (λ vs. calm_needing _ at (piece_named L v) _ (λ q e. absurd (false≢true cc))))
 
   calm_run_all : (at : ℕ) (cs : List Stmt) (o : Own) → Calm (run_all L g p at cs o)
-  calm_run_all at [] o = λ e. no_way cc
+  calm_run_all at [] o = λ e. absurd (false≢true cc)
   calm_run_all at (c ∷ cs) o = calm_bind (run L g p at c o) _ (calm_run at c o) (λ o'. calm_run_all (at + length (statement c)) cs o')
 
   calm_guarded : (t : Placed) (o : Own) → Calm (guarded L g p t o)
@@ -87,17 +84,17 @@ module _ (L : Level) (g : Game) (p : ℕ) where
       (λ v. calm_cond (holds v) (run_all L g p (effect_place t) t.transition.effect o) (halt Guard) (calm_run_all (effect_place t) t.transition.effect o) calm_guard)
 
   calm_receive : (l : List ℕ) (m : Message) (o : Own) → Calm (receive p (receipts l m) o)
-  calm_receive [] m o e = no_way cc
-  calm_receive (a ∷ []) m o e = no_way cc
-  calm_receive (a ∷ b ∷ l) m o e = no_way cc
+  calm_receive [] m o e = absurd (false≢true cc)
+  calm_receive (a ∷ []) m o e = absurd (false≢true cc)
+  calm_receive (a ∷ b ∷ l) m o e = absurd (false≢true cc)
 
   calm_transit : (t : Placed) (b : Bool) (m : Option Message) → Calm (transit L g p t b m)
   calm_transit t true m = calm_guarded t no_writes
-  calm_transit t false None = λ e. no_way cc
+  calm_transit t false None = λ e. absurd (false≢true cc)
   calm_transit t false (Some m) = calm_bind (receive p (receipts t.transition.receives m) no_writes) _ (calm_receive t.transition.receives m no_writes) (λ o. calm_guarded t o)
 
   calm_unwanted : (k s : ℕ) (m : Message) (ts : List Placed) → Calm (unwanted L g p k s m ts)
-  calm_unwanted k s m [] = λ e. no_way cc
+  calm_unwanted k s m [] = λ e. absurd (false≢true cc)
   calm_unwanted k s m (t ∷ ts) =
       let o = laid_over p (receipts t.transition.receives m) no_writes in
       let e = evaluate L g p o t.guard t.transition.guard in
@@ -105,7 +102,7 @@ module _ (L : Level) (g : Game) (p : ℕ) where
       (calm_bind e _ (calm_evaluate o t.guard t.transition.guard) (λ v. calm_cond (holds v) (halt Guard) (unwanted L g p k s m ts) calm_guard (calm_unwanted k s m ts))) (calm_unwanted k s m ts)
 
   calm_discard : (k : ℕ) (m : Option Message) → Calm (discard L g p k m)
-  calm_discard k None = λ e. no_way cc
+  calm_discard k None = λ e. absurd (false≢true cc)
   calm_discard k (Some m) = calm_unwanted k (g.states p) m (placed L)
 
 -- nor is any other fault of a move by itself
@@ -115,41 +112,41 @@ record Quiet (d : Deed) : Type 0 where
   ended : d.ended ≡ fail Clash → ⊥
 
 calm_ended : {A : Type 0} (o : Result A Why) → (o ≡ Err Clash → ⊥) → ended_by o ≡ fail Clash → ⊥
-calm_ended (Ok x) h e = no_way cc
+calm_ended (Ok x) h e = absurd (false≢true cc)
 calm_ended (Err w) h e = h cc
 
 quiet_bears : (b : Bool) (s : ℕ) (m : Option Message) → bears b s m ≡ fail Clash → ⊥
-quiet_bears true s m e = no_way cc
-quiet_bears false s None e = no_way cc
+quiet_bears true s m e = absurd (false≢true cc)
+quiet_bears false s None e = absurd (false≢true cc)
 quiet_bears false s (Some m) e = go (eqb s m.signal) e
   where
     go : (b : Bool) → never (not b) NoMessage ≡ fail Clash → ⊥
-    go true h = no_way cc
-    go false h = no_way cc
+    go true h = absurd (false≢true cc)
+    go false h = absurd (false≢true cc)
 
 quiet_state : (b : Bool) (c : Check Why) → (c ≡ fail Clash → ⊥) → and_then (never (not b) OtherState) c ≡ fail Clash → ⊥
 quiet_state true c h e = h e
-quiet_state false c h e = no_way cc
+quiet_state false c h e = absurd (false≢true cc)
 
 quiet_waits : (m : Option Message) → waits m ≡ fail Clash → ⊥
-quiet_waits None e = no_way cc
-quiet_waits (Some m) e = no_way cc
+quiet_waits None e = absurd (false≢true cc)
+quiet_waits (Some m) e = absurd (false≢true cc)
 
 quiet_transit : (L : Level) (g : Game) (p : ℕ) (o : Option Placed) → Quiet (transit_deed L g p o)
-quiet_transit L g p None = record { known = λ e. no_way cc; ready = λ e. no_way cc; ended = λ e. no_way cc }
+quiet_transit L g p None = record { known = λ e. absurd (false≢true cc); ready = λ e. absurd (false≢true cc); ended = λ e. absurd (false≢true cc) }
 quiet_transit L g p (Some t) =
     let b = eqb t.transition.signal 0 in
     let m = front (g.trays p) in record {
-      known = λ e. no_way cc;
+      known = λ e. absurd (false≢true cc);
       ready = quiet_state (eqb (g.states p) t.transition.source) (bears b t.transition.signal m) (quiet_bears b t.transition.signal m);
       ended = calm_ended (transit L g p t b m).out (calm_transit L g p t b m);
     }
 
 quiet_discard : (L : Level) (g : Game) (p : ℕ) (o : Option Piece) → Quiet (discard_deed L g p o)
-quiet_discard L g p None = record { known = λ e. no_way cc; ready = λ e. no_way cc; ended = λ e. no_way cc }
+quiet_discard L g p None = record { known = λ e. absurd (false≢true cc); ready = λ e. absurd (false≢true cc); ended = λ e. absurd (false≢true cc) }
 quiet_discard L g p (Some x) =
     let m = front (g.trays p) in record {
-      known = λ e. no_way cc;
+      known = λ e. absurd (false≢true cc);
       ready = quiet_waits m;
       ended = calm_ended (discard L g p x.kind m).out (calm_discard L g p x.kind m);
     }
@@ -185,11 +182,11 @@ next_clash true c h = inl refl
 next_clash false c h = inr h
 
 next_full : (b : Bool) (c : Check Why) → and_then (never b TrayFull) c ≡ fail Clash → c ≡ fail Clash
-next_full true c h = no_way cc
+next_full true c h = absurd (false≢true cc)
 next_full false c h = h
 
 next_moved : (b : Bool) (c : Check Why) → and_then (never b MovesAlready) c ≡ fail Clash → c ≡ fail Clash
-next_moved true c h = no_way cc
+next_moved true c h = absurd (false≢true cc)
 next_moved false c h = h
 
 next_own : (x c : Check Why) → (x ≡ fail Clash → ⊥) → and_then x c ≡ fail Clash → c ≡ fail Clash
@@ -248,7 +245,7 @@ module _ (L : Level) (g : Game) where
 
   found : (limit : ℕ) (s : Earlier) (P : Move → Type 0) (i : ℕ) (ms : List Move) (f : MoveFault) → Done s P
       → judge_all limit g L s i ms ≡ fail f → f.why ≡ Clash → Found P ms f
-  found limit s P i [] f n h e = no_way cc
+  found limit s P i [] f n h e = absurd (false≢true cc)
   found limit s P i (m ∷ ms) f n h e = go (judge limit g s (deed L g m)) refl h
       (λ k. found limit (and_so s (deed L g m)) (λ x. P x ⊎ (x ≡ m)) (suc i) ms f (done_next s P m n) k e)
     where
@@ -264,12 +261,12 @@ module _ (L : Level) (g : Game) where
       go (fail w) j k r = here w j cc
 
 struck_fault : (S : Setting) (g : Game) (ms : List Move) (c : Check MoveFault) (f : MoveFault) → (struck S g ms c).answer ≡ refused (Strike (AtMove f)) → c ≡ fail f
-struck_fault S g ms pass f h = no_way cc
+struck_fault S g ms pass f h = absurd (false≢true cc)
 struck_fault S g ms (fail w) f h = cc
 
 pub clashes_are_real : ClashesAreReal
 clashes_are_real S g ms f h e =
     let c = struck_fault S g ms (judge_all S.limit g S.level nothing 0 ms) f h in
-    let none : Done S.level g nothing (λ x. ⊥) = record { wrote = λ p a k. no_way k; sent = λ q k. no_way k } in
+    let none : Done S.level g nothing (λ x. ⊥) = record { wrote = λ p a k. absurd (false≢true k); sent = λ q k. absurd (false≢true k) } in
     let (i, (x, k, w)) = found S.level g S.limit nothing (λ x. ⊥) 0 ms f none c e in
     (x, ⊎_elim (λ z. absurd z) (λ z. z) k, w)

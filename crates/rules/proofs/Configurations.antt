@@ -1,5 +1,6 @@
 -- A trace laid over the game before the move says what the published semantics says of the configuration written so far.
-use Rattle.std.proofs.Common.{◌≡◌, ℕ, ◌+◌, Bool, true, false, cond, eqb, List, [], ◌∷◌, ◌++◌, length, ℤ, Some, None, Ok, Err, Option, Result, sym, refl, ap, ◌∙◌}
+use Rattle.std.proofs.Common.{◌≡◌, ℕ, ◌+◌, Bool, true, false, cond, eqb, ◌≤◌, List, [], ◌∷◌, ◌++◌, length, ℤ, Some, None, Ok, Err, Option, Result, sym, refl, ap, ◌∙◌, arith}
+use Rattle.std.proofs.lemmas.List.{append-nil, append_assoc}
 use Rattle.mail.specs.declared.message.Message.{Message}
 use Rattle.level.specs.Syntax.{Expr, constant, own_piece, own, other, binary, negation, Stmt, assign, store, send}
 use Rattle.level.specs.Spelling.{size, statement}
@@ -12,6 +13,7 @@ use Rattle.rules.specs.Game.{Game, same, message, put_in, Setting}
 use Rattle.rules.specs.Names.{then, piece_named, cell_named}
 use Rattle.rules.specs.Trace.{Event, reads, writes, sends, Trace, halt, onward, bind, needing, Own, over, seen, post, receipts, receive, laid_over, evaluate, evaluate_all, run, run_all, guarded}
 use Rattle.rules.specs.Single.{number_set, filled, value, values, sent, execute, execute_all}
+use Rattle.rules.proofs.Trails.{weight, weight_evaluate, weight_evaluate_all}
 
 abbrev pub told : {A : Type 0} → Result A Why → Option A
 told (Ok x) = Some x
@@ -62,43 +64,11 @@ lay_filled g c o p [] m h = h
 lay_filled g c o p (a ∷ []) m h = lay_set g c o p a m.first h
 lay_filled g c o p (a ∷ b ∷ l) m h = lay_set g (number_set c p a m.first) (over o p a m.first) p b m.second (lay_set g c o p a m.first h)
 
--- events that are reads alone
-abbrev pub Only : List Event → Type 0
-Only [] = Unit {0}
-Only (reads p a ∷ es) = Only es
-Only (writes p a v ∷ es) = ⊥
-Only (sends q m ∷ es) = ⊥
-
-only_append : (xs ys : List Event) → Only xs → Only ys → Only (xs ++ ys)
-only_append [] ys h k = k
-only_append (reads p a ∷ xs) ys h k = only_append xs ys h k
-only_append (writes p a v ∷ xs) ys h k = absurd h
-only_append (sends q m ∷ xs) ys h k = absurd h
-
-only_onward : {A B : Type 0} (es : List Event) (o : Result A Why) (k : A → Trace B) → Only es → ((x : A) → Only (k x).events) → Only (onward es o k).events
-only_onward es (Ok x) k h j = only_append es (k x).events h (j x)
-only_onward es (Err w) k h j = h
-
-pub only_bind : {A B : Type 0} (t : Trace A) (k : A → Trace B) → Only t.events → ((x : A) → Only (k x).events) → Only (bind t k).events
-only_bind t k h j = only_onward t.events t.out k h j
-
-only_needing : {A B : Type 0} (c : Cause) (at : ℕ) (o : Option A) (k : A → Trace B) → ((x : A) → Only (k x).events) → Only (needing c at o k).events
-only_needing c at None k h = tt
-only_needing c at (Some x) k h = h x
-
-only_seen : (g : Game) (q a : ℕ) (o : Option ℤ) → Only (seen g q a o).events
-only_seen g q a None = tt
-only_seen g q a (Some v) = tt
-
 bind_bind : {A B C : Type 0} (t : Trace A) (f : A → Trace B) (k : B → Trace C) → bind (bind t f) k ≡ bind t (λ x. bind (f x) k)
 bind_bind t f k = outer t.events t.out
   where
-    append : (xs ys zs : List Event) → (xs ++ ys) ++ zs ≡ xs ++ (ys ++ zs)
-    append [] ys zs = refl
-    append (x ∷ xs) ys zs = ap (x ∷◌) (append xs ys zs)
-
     inner : (es fs : List Event) (o : Result _ Why) → onward (es ++ fs) o k ≡ record { events = es ++ (onward fs o k).events; out = (onward fs o k).out }
-    inner es fs (Ok y) = ap (λ z. record { events = z; out = (k y).out }) (append es fs (k y).events)
+    inner es fs (Ok y) = ap (λ z. record { events = z; out = (k y).out }) (append_assoc es fs (k y).events)
     inner es fs (Err w) = refl
 
     outer : (es : List Event) (o : Result _ Why) → bind (onward es o f) k ≡ onward es o (λ x. bind (f x) k)
@@ -117,25 +87,23 @@ module _ (S : Setting) where
   abbrev pub through : {A : Type 0} → Game → Trace A → Option Game
   through c t = then (replay c t.events) (λ c'. then (told t.out) (λ x. Some c'))
 
-  pub replay_only : (c : Game) (es : List Event) → Only es → replay c es ≡ Some c
-  replay_only c [] h = refl
-  replay_only c (reads p a ∷ es) h = replay_only c es h
-  replay_only c (writes p a v ∷ es) h = absurd h
-  replay_only c (sends q m ∷ es) h = absurd h
-
-  replay_past : (c : Game) (xs ys : List Event) → Only xs → replay c (xs ++ ys) ≡ replay c ys
+  -- where nothing is written or sent
+  replay_past : (c : Game) (xs ys : List Event) → weight 1 1 xs ≤ 0 → replay c (xs ++ ys) ≡ replay c ys
   replay_past c [] ys h = refl
   replay_past c (reads p a ∷ xs) ys h = replay_past c xs ys h
-  replay_past c (writes p a v ∷ xs) ys h = absurd h
-  replay_past c (sends q m ∷ xs) ys h = absurd h
+  replay_past c (writes p a v ∷ xs) ys h = absurd (omega arith)
+  replay_past c (sends q m ∷ xs) ys h = absurd (omega arith)
 
-  through_onward : {A B : Type 0} (c : Game) (es : List Event) (o : Result A Why) (k : A → Trace B) → Only es → through c (onward es o k) ≡ then (told o) (λ x. through c (k x))
+  pub replay_only : (c : Game) (es : List Event) → weight 1 1 es ≤ 0 → replay c es ≡ Some c
+  replay_only c es h = ap (replay c) (sym (append-nil es)) ∙ replay_past c es [] h
+
+  through_onward : {A B : Type 0} (c : Game) (es : List Event) (o : Result A Why) (k : A → Trace B) → weight 1 1 es ≤ 0 → through c (onward es o k) ≡ then (told o) (λ x. through c (k x))
   through_onward c es (Ok x) k h = ap (λ z. then z (λ c'. then (told (k x).out) (λ y. Some c'))) (replay_past c es (k x).events h)
   through_onward c es (Err w) k h = ap (λ z. then z (λ c'. None)) (replay_only c es h)
 
   -- an evaluation changes nothing; what follows goes on with its value
   through_bind : {A B : Type 0} (c : Game) (t : Trace A) (k : A → Trace B) (o : Option A) (j : A → Option Game)
-      → Only t.events → told t.out ≡ o → ((x : A) → through c (k x) ≡ j x) → through c (bind t k) ≡ then o j
+      → weight 1 1 t.events ≤ 0 → told t.out ≡ o → ((x : A) → through c (k x) ≡ j x) → through c (bind t k) ≡ then o j
   through_bind c t k o j h e f = through_onward c t.events t.out k h ∙ ap (λ z. then z (λ x. through c (k x))) e ∙ then_same o (λ x. through c (k x)) j f
 
   through_needing : {A B C : Type 0} (c : Game) (w : Cause) (at : ℕ) (o : Option A) (f : A → Trace B) (k : B → Trace C) (j : A → Option Game)
@@ -144,21 +112,6 @@ module _ (S : Setting) where
   through_needing c w at (Some x) f k j h = h x
 
   module _ (g : Game) (p : ℕ) where
-    pub only_evaluate : (o : Own) (at : ℕ) (e : Expr) → Only (evaluate S.level g p o at e).events
-    only_evaluate o at (constant z) = tt
-    only_evaluate o at own_piece = tt
-    only_evaluate o at (own a) = only_seen g p a (o p a)
-    only_evaluate o at (other a e) = only_bind (evaluate S.level g p o (at + 2) e) _ (only_evaluate o (at + 2) e)
-        (λ v. only_needing _ at (cell_named S.level v a) _ (λ q. only_seen g q a (o q a)))
-    only_evaluate o at (binary op e f) = only_bind (evaluate S.level g p o (at + 1) e) _ (only_evaluate o (at + 1) e)
-        (λ v. only_bind (evaluate S.level g p o (at + 1 + size e) f) _ (only_evaluate o (at + 1 + size e) f) (λ w. only_needing _ at (computed op v w) _ (λ x. tt)))
-    only_evaluate o at (negation e) = only_bind (evaluate S.level g p o (at + 1) e) _ (only_evaluate o (at + 1) e) (λ v. tt)
-
-    only_all : (o : Own) (at : ℕ) (es : List Expr) → Only (evaluate_all S.level g p o at es).events
-    only_all o at [] = tt
-    only_all o at (e ∷ es) = only_bind (evaluate S.level g p o at e) _ (only_evaluate o at e)
-        (λ v. only_bind (evaluate_all S.level g p o (at + size e) es) _ (only_all o (at + size e) es) (λ vs. tt))
-
     module _ (c : Game) (o : Own) (lay : Lay g o c) where
       pub told_evaluate : (at : ℕ) (e : Expr) → told (evaluate S.level g p o at e).out ≡ value S c p e
       told_evaluate at (constant z) = refl
@@ -185,12 +138,12 @@ module _ (S : Setting) where
         through_value : (at : ℕ) (e : Expr) (f : ℤ → Trace Own) (j : ℤ → Option Game) → ((v : ℤ) → through c (bind (f v) k) ≡ j v)
             → through c (bind (bind (evaluate S.level g p o at e) f) k) ≡ then (value S c p e) j
         through_value at e f j h = ap (through c) (bind_bind (evaluate S.level g p o at e) f k)
-            ∙ through_bind c (evaluate S.level g p o at e) _ _ j (only_evaluate o at e) (told_evaluate at e) h
+            ∙ through_bind c (evaluate S.level g p o at e) _ _ j (weight_evaluate 1 1 S.level g p o at e) (told_evaluate at e) h
 
         through_values : (at : ℕ) (es : List Expr) (f : List ℤ → Trace Own) (j : List ℤ → Option Game) → ((vs : List ℤ) → through c (bind (f vs) k) ≡ j vs)
             → through c (bind (bind (evaluate_all S.level g p o at es) f) k) ≡ then (values S c p es) j
         through_values at es f j h = ap (through c) (bind_bind (evaluate_all S.level g p o at es) f k)
-            ∙ through_bind c (evaluate_all S.level g p o at es) _ _ j (only_all o at es) (told_all at es) h
+            ∙ through_bind c (evaluate_all S.level g p o at es) _ _ j (weight_evaluate_all 1 1 S.level g p o at es) (told_all at es) h
 
     module _ (k : Own → Trace Own) (K : Game → Option Game) (on : (o : Own) (c : Game) → Lay g o c → through c (k o) ≡ K c) where
       through_post : (c : Game) (o : Own) (q : ℕ) (m : Message) → Lay g o c → through c (bind (post o q m) k) ≡ then (sent S c q m) K
@@ -231,7 +184,7 @@ module _ (S : Setting) where
 
     pub through_guarded : (t : Placed) (o : Own) (c : Game) → Lay g o c → through c (guarded S.level g p t o) ≡ guarded_in c t
     through_guarded t o c lay =
-        through_bind c (evaluate S.level g p o t.guard t.transition.guard) _ _ _ (only_evaluate o t.guard t.transition.guard) (told_evaluate c o lay t.guard t.transition.guard)
+        through_bind c (evaluate S.level g p o t.guard t.transition.guard) _ _ _ (weight_evaluate 1 1 S.level g p o t.guard t.transition.guard) (told_evaluate c o lay t.guard t.transition.guard)
         (λ v. go (holds v))
       where
         go : (b : Bool) → through c (cond b (run_all S.level g p (effect_place t) t.transition.effect o) (halt Guard)) ≡ cond b (execute_all S p t.transition.effect c) None

@@ -9,9 +9,9 @@ pub mod Frame
 pub mod Refusals
 pub mod Runs
 pub mod Law
+pub mod Trails
 pub mod Configurations
 pub mod Single
-pub mod Trails
 pub mod Ranged
 pub mod Theorems
 pub mod Cases

@@ -1,6 +1,6 @@
 -- In a sound level a move writes only cells in the table, and sends only to pieces in it.
 use Rattle.std.proofs.Common.{◌≡◌, ℕ, ◌+◌, ◌<◌, ◌≤◌, Bool, true, false, cond, eqb, ltb, List, [], ◌∷◌, ◌++◌, map, length, ℤ, pos, negsuc, Some, None, Ok, Err, Option, Result, arith}
-use Rattle.std.proofs.lemmas.Bool.{ltb-true}
+use Rattle.std.proofs.lemmas.Bool.{ltb-true, false≢true}
 use Rattle.mail.specs.declared.message.Message.{Message}
 use Rattle.mail.specs.Trays.{front}
 use Rattle.level.specs.Syntax.{Expr, Stmt, assign, store, send, Transition, Piece, Level}
@@ -160,11 +160,11 @@ module _ (L : Level) (sound : Sound L) (g : Game) where
 
   -- a move that is known is of a piece in the table
   known_transit : (p : ℕ) (o : Option Placed) → Maybe (λ t. Narrows t × (p < length L.pieces)) o → (transit_deed L g p o).known ≡ pass → p < 32
-  known_transit p None h e = absurd (let z : ◌≡◌ {A = ℕ} 0 1 = cc in omega arith)
+  known_transit p None h e = absurd (false≢true cc)
   known_transit p (Some t) h e = let f = few_pieces L sound in let i = h.1 in omega arith
 
   known_discard : (p : ℕ) (o : Option Piece) → Maybe (λ x. p < length L.pieces) o → (discard_deed L g p o).known ≡ pass → p < 32
-  known_discard p None h e = absurd (let z : ◌≡◌ {A = ℕ} 0 1 = cc in omega arith)
+  known_discard p None h e = absurd (false≢true cc)
   known_discard p (Some x) h e = let f = few_pieces L sound in omega arith
 
   known_act : (p : ℕ) (a : Act) → (act_deed L g p a).known ≡ pass → p < 32

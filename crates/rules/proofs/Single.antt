@@ -1,6 +1,7 @@
 -- Fire accepts exactly the moves that the published semantics enables, and ends where it says.
-use Rattle.std.proofs.Common.{◌≡◌, ℕ, suc, ◌+◌, Bool, true, false, cond, not, eqb, List, [], ◌∷◌, ◌++◌, length, ℤ, Some, None, Ok, Err, Option, Result, sym, refl, ap, ◌∙◌, subst, arith}
-use Rattle.std.proofs.lemmas.Bool.{both_ways, eqb-true, eqb-false, eq-eqb, ne_eqb, and_parts, and_from, cond-true}
+use Rattle.std.proofs.Common.{◌≡◌, ℕ, suc, ◌+◌, Bool, true, false, cond, not, eqb, List, [], ◌∷◌, length, ℤ, Some, None, Ok, Err, Option, Result, sym, refl, ap, ◌∙◌, subst, arith}
+use Rattle.std.proofs.lemmas.Bool.{false≢true, eqb-true, eqb-false, eq-eqb, ne_eqb, and_parts, and_from, cond-true}
+use Rattle.std.proofs.lemmas.List.{append-nil}
 use Rattle.std.proofs.lemmas.Bool.Decides.{nat_tests}
 use Rattle.mail.specs.declared.message.Message.{Message}
 use Rattle.mail.specs.Trays.{front, take_trays}
@@ -25,12 +26,9 @@ use Rattle.rules.specs.Single.{number_set, state_set, dequeued, received, value,
 use Rattle.rules.specs.Theorems.{FireIsAStep}
 use Rattle.rules.proofs.Points.{put, taken_at, put_at}
 use Rattle.rules.proofs.Within.{put_length, cond_tail}
-use Rattle.rules.proofs.Configurations.{told, told_bind, lay_filled, Only, only_bind, replay, replay_only, only_evaluate, told_evaluate, through_guarded, through_receive}
+use Rattle.rules.proofs.Configurations.{told, told_bind, lay_filled, replay, replay_only, told_evaluate, through_guarded, through_receive}
+use Rattle.rules.proofs.Trails.{weight_unwanted}
 use Rattle.rules.proofs.Runs.{cond_accepted, struck_accepted, turn_pass, pass_turn}
-
-nil_right : {A : Type 0} (l : List A) → l ++ [] ≡ l
-nil_right [] = refl
-nil_right (x ∷ l) = ap (x ∷◌) (nil_right l)
 
 module _ (S : Setting) where
   -- the configuration with the writes and sends of some events
@@ -90,7 +88,7 @@ module _ (S : Setting) where
         let k = cond_tail (takes_from d q) (g.trays q) in omega arith
 
     outcome_ran : outcome S.place g (d ∷ []) ≡ state_set (ran begun d.events) d.mover d.target
-    outcome_ran = rw (nil_right (changes_of d.events), nil_right (parcels_of d.events))
+    outcome_ran = rw (append-nil (changes_of d.events), append-nil (parcels_of d.events))
 
     judge_parts : judge S.limit g nothing d ≡ pass → (d.known ≡ pass) × (d.ready ≡ pass) × (along S.limit g nothing d (λ q. 0) d.events ≡ pass)
     judge_parts h = grind arith
@@ -110,12 +108,12 @@ module _ (S : Setting) where
 
   -- a guard that holds, and then an effect that runs to its end
   guarded_parts : (o : Option ℤ) (r : Option Game) (c : Game) → then o (λ v. cond (holds v) r None) ≡ Some c → ((z : ℤ) × (o ≡ Some z) × (holds z ≡ true)) × (r ≡ Some c)
-  guarded_parts None r c h = let e : false ≡ true = cc in absurd (both_ways false refl e)
+  guarded_parts None r c h = absurd (false≢true cc)
   guarded_parts (Some z) r c h = go (holds z) refl h
     where
       go : (b : Bool) → holds z ≡ b → cond b r None ≡ Some c → ((y : ℤ) × (Some z ≡ Some y) × (holds y ≡ true)) × (r ≡ Some c)
       go true e k = ((z, refl, e), k)
-      go false e k = let f : false ≡ true = cc in absurd (both_ways false refl f)
+      go false e k = absurd (false≢true cc)
 
   parts_guarded : (o : Option ℤ) (r : Option Game) (c : Game) (z : ℤ) → o ≡ Some z → holds z ≡ true → r ≡ Some c → then o (λ v. cond (holds v) r None) ≡ Some c
   parts_guarded o r c z e h k = rw (e, h, k)
@@ -158,7 +156,7 @@ module _ (S : Setting) where
         let d = transit_by S.level g p t false None in
         let (k, r, a) = judge_parts g d h in
         let (f, w) = ready_state (eqb (g.states p) t.transition.source) (fail NoMessage) r in
-        let c : false ≡ true = cc in absurd (both_ways false refl c)
+        absurd (false≢true cc)
     triggered_step n t (m ∷ l) e s i h =
         let d = transit_by S.level g p t false (Some m) in
         let (k, r, a) = judge_parts g d h in
@@ -191,12 +189,12 @@ module _ (S : Setting) where
     False o = (z : ℤ) × (o ≡ Some z) × (holds z ≡ false)
 
     tried : (b : Bool) (o : Option ℤ) (rest : Option Own) → done (cond b (then o (λ v. cond (holds v) None rest)) rest) ≡ true → (done rest ≡ true) × (b ≡ true → False o)
-    tried false o rest h = (h, λ e. absurd (both_ways false refl e))
-    tried true None rest h = absurd (both_ways false refl h)
+    tried false o rest h = (h, λ e. absurd (false≢true e))
+    tried true None rest h = absurd (false≢true h)
     tried true (Some z) rest h = go (holds z) refl h
       where
         go : (b : Bool) → holds z ≡ b → done (cond b None rest) ≡ true → (done rest ≡ true) × (true ≡ true → False (Some z))
-        go true e k = absurd (both_ways false refl k)
+        go true e k = absurd (false≢true k)
         go false e k = (k, λ _. (z, refl, e))
 
     try : (b : Bool) (o : Option ℤ) (rest : Option Own) → done rest ≡ true → (b ≡ true → False o) → done (cond b (then o (λ v. cond (holds v) None rest)) rest) ≡ true
@@ -223,22 +221,6 @@ module _ (S : Setting) where
           go true = told_bind (evaluate S.level g p o t.guard t.transition.guard) _ _ _
               (told_evaluate S g p (received g p t m) o (lay_filled g (dequeued g p) no_writes p t.transition.receives m (λ q b. refl)) t.guard t.transition.guard) (λ v. inner (holds v))
           go false = refl
-
-      only_unwanted : (ts : List Placed) → Only (unwanted S.level g p k (g.states p) m ts).events
-      only_unwanted [] = tt
-      only_unwanted (t ∷ ts) = go (wanted t) (only_unwanted ts)
-        where
-          o : Own
-          o = laid_over p (receipts t.transition.receives m) no_writes
-
-          inner : (b : Bool) → Only (unwanted S.level g p k (g.states p) m ts).events → Only (cond b (halt Guard) (unwanted S.level g p k (g.states p) m ts)).events
-          inner true h = tt
-          inner false h = h
-
-          go : (b : Bool) → Only (unwanted S.level g p k (g.states p) m ts).events
-              → Only (cond b (bind (evaluate S.level g p o t.guard t.transition.guard) (λ v. cond (holds v) (halt Guard) (unwanted S.level g p k (g.states p) m ts))) (unwanted S.level g p k (g.states p) m ts)).events
-          go true h = only_bind (evaluate S.level g p o t.guard t.transition.guard) _ (only_evaluate S g p o t.guard t.transition.guard) (λ v. inner (holds v) h)
-          go false h = h
 
       abbrev Refuses : Placed → Type 0
       Refuses t = t.kind ≡ k → t.transition.source ≡ g.states p → t.transition.signal ≡ m.signal → Fails S (received g p t m) p t.transition.guard
@@ -268,12 +250,12 @@ module _ (S : Setting) where
         → Step S g (record { piece = p; act = Discard }) (outcome S.place g (discard_by S.level g p x.kind (front l) ∷ []))
     consumed_step x [] e i h =
         let (k, r, a) = judge_parts g (discard_by S.level g p x.kind None) h in
-        let c : false ≡ true = cc in absurd (both_ways false refl c)
+        absurd (false≢true cc)
     consumed_step x (m ∷ l) e i h =
         let d = discard_by S.level g p x.kind (Some m) in
         let (k, r, a) = judge_parts g d h in
         let (y, z) = pass_replay g d (λ q. 0) d.events (begun g d) (sized_begun g d) a in
-        let same : dequeued g p ≡ ran (dequeued g p) d.events = let w = replay_only S (dequeued g p) d.events (only_unwanted x.kind m (placed S.level)) in cc in
+        let same : dequeued g p ≡ ran (dequeued g p) d.events = let w = replay_only S (dequeued g p) d.events (weight_unwanted 1 1 S.level g p x.kind (g.states p) m (placed S.level)) in cc in
         let f = all_false x.kind m (placed S.level) (ended_done (unwanted S.level g p x.kind (g.states p) m (placed S.level)).out z) in
         subst (Step S g (record { piece = p; act = Discard })) (sym (outcome_ran g d ∙ ap (λ c. state_set c p (g.states p)) (sym same) ∙ kept_state))
         (consumed e i f)
@@ -281,7 +263,7 @@ module _ (S : Setting) where
   -- an accepted move is a step
   transit_step : (g : Game) (p n : ℕ) (o : Option Placed) → transition_of S.level p n ≡ o → judge S.limit g nothing (transit_deed S.level g p o) ≡ pass
       → Step S g (record { piece = p; act = Transition n }) (outcome S.place g (transit_deed S.level g p o ∷ []))
-  transit_step g p n None e h = let c : false ≡ true = cc in absurd (both_ways false refl c)
+  transit_step g p n None e h = absurd (false≢true cc)
   transit_step g p n (Some t) e h = go (eqb t.transition.signal 0) refl h
     where
       go : (b : Bool) → eqb t.transition.signal 0 ≡ b → judge S.limit g nothing (transit_by S.level g p t b (front (g.trays p))) ≡ pass
@@ -291,7 +273,7 @@ module _ (S : Setting) where
 
   discard_step : (g : Game) (p : ℕ) (o : Option Piece) → nth S.level.pieces p ≡ o → judge S.limit g nothing (discard_deed S.level g p o) ≡ pass
       → Step S g (record { piece = p; act = Discard }) (outcome S.place g (discard_deed S.level g p o ∷ []))
-  discard_step g p None e h = let c : false ≡ true = cc in absurd (both_ways false refl c)
+  discard_step g p None e h = absurd (false≢true cc)
   discard_step g p (Some x) e h = consumed_step g p x (g.trays p) e refl h
 
   pub step_of : (g : Game) (p : ℕ) (a : Act) → judge S.limit g nothing (deed S.level g (record { piece = p; act = a })) ≡ pass
@@ -335,7 +317,7 @@ module _ (S : Setting) where
   of_step {g} (consumed {p = p} {x = x} {m = m} {l = l} e i f) =
       let d = discard_by S.level g p x.kind (Some m) in
       let y = done_ended g p (unwanted S.level g p x.kind (g.states p) m (placed S.level)).out (false_all g p x.kind m (placed S.level) f) in
-      let (a, b) = passes g p d (dequeued g p) refl refl (replay_only S (dequeued g p) d.events (only_unwanted g p x.kind m (placed S.level))) y in
+      let (a, b) = passes g p d (dequeued g p) refl refl (replay_only S (dequeued g p) d.events (weight_unwanted 1 1 S.level g p x.kind (g.states p) m (placed S.level))) y in
       let j : discard_deed S.level g p (nth S.level.pieces p) ≡ d =
       ap (discard_deed S.level g p) e ∙ ap (λ l. discard_by S.level g p x.kind (front l)) i in
       subst (λ b. Done g b (dequeued g p)) (sym j) (a, b ∙ kept_state g p)

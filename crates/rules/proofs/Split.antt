@@ -1,6 +1,7 @@
 -- An accepted beat may be cut: its second part is accepted on the game after its first, and they end as the whole does.
 use Rattle.std.proofs.Common.{◌≡◌, ℕ, ◌-◌, true, false, cond, List, [], ◌∷◌, ◌++◌, map, length, ℤ, sym, refl, ap, ◌∙◌, subst, ap₂, arith}
 use mathlib.Core.List.{tail}
+use Rattle.std.proofs.lemmas.List.{map-append}
 use Rattle.std.proofs.lemmas.Bool.Decides.{nat_tests}
 use Rattle.mail.specs.declared.message.Message.{Message}
 use Rattle.mail.specs.Trays.{front}
@@ -56,10 +57,6 @@ unsent place s (d ∷ ds) q h = let k = unsent place (and_so s d) ds q h in grin
 pub length_tail : (l : List Message) → length (tail l) ≡ length l - 1
 length_tail [] = refl
 length_tail (m ∷ l) = omega arith
-
-pub map-append : {A B : Type 0} (f : A → B) (xs ys : List A) → map f (xs ++ ys) ≡ map f xs ++ map f ys
-map-append f [] ys = refl
-map-append f (x ∷ xs) ys = ap (f x ∷◌) (map-append f xs ys)
 
 module _ (limit : ℕ) where
   -- whoever has moved takes no more

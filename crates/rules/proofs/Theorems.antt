@@ -1,6 +1,7 @@
 -- The theorems by name, from what stands in the files before.
-use Rattle.std.proofs.Common.{◌≡◌, ℕ, suc, Bool, true, false, List, [], ◌∷◌, ◌++◌, map, length, sym, refl, ap, ◌∙◌, subst, ⊎_elim, arith}
-use Rattle.std.proofs.lemmas.Bool.{cases_Bool}
+use Rattle.std.proofs.Common.{◌≡◌, ℕ, suc, List, [], ◌∷◌, ◌++◌, map, length, sym, refl, ap, ◌∙◌, subst, arith}
+use Rattle.std.proofs.lemmas.Bool.{false_from_ne_true}
+use Rattle.std.proofs.lemmas.List.{map-append}
 use Rattle.mail.specs.Trays.{front}
 use Rattle.rules.specs.declared.moves.Move.{Move}
 use Rattle.rules.specs.Game.{Game, Within, Setting}
@@ -10,7 +11,7 @@ use Rattle.rules.specs.Beat.{nothing, judge_all, outcome}
 use Rattle.rules.specs.Calls.{accepted, struck, beat}
 use Rattle.rules.specs.Theorems.{DependsOnReads, BeatsSplit, NeighboursExchange, NoneClash, TraysStayWithin}
 use Rattle.rules.proofs.Swap.{before, Run, exchange, alike_outcome}
-use Rattle.rules.proofs.Split.{split, map-append}
+use Rattle.rules.proofs.Split.{split}
 use Rattle.rules.proofs.Within.{within_run, find_room}
 use Rattle.rules.proofs.Words.{goes_before, never_clash}
 use Rattle.rules.proofs.Frame.{frame, mover}
@@ -45,14 +46,11 @@ swap_length : {A : Type 0} (xs ys : List A) (x y : A) → length (xs ++ (x ∷ y
 swap_length [] ys x y = refl
 swap_length (z ∷ xs) ys x y = ap suc (swap_length xs ys x y)
 
-false_of : (b : Bool) → (b ≡ true → ⊥) → b ≡ false
-false_of b h = ⊎_elim (λ e. absurd (h e)) (λ e. e) (cases_Bool b)
-
 pub neighbours_exchange : NeighboursExchange
 neighbours_exchange S g xs ys x y n w h free =
     let d = deed S.level g in
     let (r, e) = beat_run S g (xs ++ (x ∷ y ∷ ys)) n w h in
-    let f = false_of (before (d x) (d y)) (λ t. free (goes_before (d x) (d y) t)) in
+    let f = false_from_ne_true (before (d x) (d y)) (λ t. free (goes_before (d x) (d y) t)) in
     let m = map-append d xs (x ∷ y ∷ ys) in
     let o = map-append d xs (y ∷ x ∷ ys) in
     let (a, b) = exchange S.limit S.place g nothing (map d xs) (map d ys) (d x) (d y) f (subst (Run S.limit g nothing) m r) in

@@ -116,7 +116,7 @@ module _ (w s : ℕ) where
       weight_transit t false (Some m) =
           weight_bind (receive p (receipts t.transition.receives m) no_writes) (guarded L g p t) (w * 2) (length t.transition.effect) (weight_receive t.transition.receives m no_writes) (λ o. weight_guarded t o)
 
-    weight_unwanted : (k z : ℕ) (m : Message) (ts : List Placed) → weight w s (unwanted L g p k z m ts).events ≤ 0
+    pub weight_unwanted : (k z : ℕ) (m : Message) (ts : List Placed) → weight w s (unwanted L g p k z m ts).events ≤ 0
     weight_unwanted k z m [] = omega arith
     weight_unwanted k z m (t ∷ ts) = go (wants L g p k z m t) (weight_unwanted k z m ts)
       where

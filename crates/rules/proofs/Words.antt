@@ -1,6 +1,6 @@
 -- "Goes before" as a test and in words; the order of a list in words and as the exchanges need it.
 use Rattle.std.proofs.Common.{◌≡◌, ℕ, Bool, true, false, ◌&&◌, ◌⊎◌, List, [], ◌∷◌, map, sym, refl, ap, inl, inr, ⊎_elim, arith}
-use Rattle.std.proofs.lemmas.Bool.{both_ways, or_cases, or_left, or_right, and_parts, and_from, cases_Bool, eq-eqb}
+use Rattle.std.proofs.lemmas.Bool.{both_ways, false_from_ne_true, false≢true, or_cases, or_left, or_right, and_parts, and_from, cases_Bool, eq-eqb}
 use Rattle.std.proofs.lemmas.Bool.Decides.{nat_tests}
 use Rattle.level.specs.Syntax.{Level}
 use Rattle.rules.specs.declared.moves.Move.{Move}
@@ -13,11 +13,8 @@ use Rattle.rules.specs.Runs.{KeepsOrder}
 use Rattle.rules.proofs.Fine.{Clear}
 use Rattle.rules.proofs.Swap.{reads_any, before, reads_none, Free, Keeps, Run}
 
-contra : (b : Bool) → (b ≡ true → b ≡ false) → b ≡ false
-contra b h = grind arith
-
 reads_some : (es : List Event) (w : ℕ → ℕ → Bool) → reads_any es w ≡ true → (p : ℕ) × (a : ℕ) × (cell_read es p a ≡ true) × (w p a ≡ true)
-reads_some [] w h = absurd (both_ways false refl h)
+reads_some [] w h = absurd (false≢true h)
 reads_some (reads p a ∷ es) w h = ⊎_elim
     (λ t. (p, a, grind (arith, nat_tests), t))
     (λ t. let (q, b, u, v) = reads_some es w t in (q, b, or_right _ _ u, v))
@@ -138,10 +135,10 @@ module _ (L : Level) (g : Game) where
   pub keeps : (l : List Move) → Distinct l → KeepsOrder L g l → Keeps (map (deed L g) l)
   keeps [] d o = tt
   keeps (z ∷ l) (a, d) o = (
-    free_of z l (λ y m. contra _ (λ e.
+    free_of z l (λ y m. false_from_ne_true _ (λ e.
         let n : y ≡ z → ⊥ = λ q. a y m (ap (λ x. (deed L g x).mover) q) in
         let s = stands_tail y z z l n (o y z (past m) now n (goes_before (deed L g y) (deed L g z) e)) in
-        absurd (a z (stands_among y z l s) refl))),
+        a z (stands_among y z l s) refl)),
     keeps l d (order_tail z l a o),
   )
 
