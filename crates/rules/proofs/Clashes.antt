@@ -1,32 +1,30 @@
 -- A move is refused for a clash only where it clashes with an earlier one.
-use Rattle.std.proofs.Common.{◌≡◌, ℕ, suc, ◌+◌, Bool, true, false, cond, not, ◌&&◌, ◌||◌, eqb, ◌⊎◌, List, [], ◌∷◌, length, ℤ, Some, None, Ok, Err, Option, Result, sym, refl, ap, ◌∙◌, subst, inl, inr, ⊎_elim, arith}
+use Rattle.std.proofs.Common.{◌≡◌, ℕ, suc, ◌+◌, Bool, true, false, not, ◌&&◌, ◌||◌, eqb, ◌⊎◌, List, [], ◌∷◌, ℤ, Some, None, Ok, Err, Option, Result, sym, refl, ap, ◌∙◌, subst, inl, inr, ⊎_elim, arith}
 use Rattle.std.proofs.lemmas.Bool.{false≢true, or_cases, or_left, or_right, and_parts, eq-eqb}
 use Rattle.std.proofs.lemmas.Bool.Decides.{nat_tests}
 use Rattle.mail.specs.declared.message.Message.{Message}
 use Rattle.mail.specs.Trays.{front}
-use Rattle.level.specs.Syntax.{Expr, constant, own_piece, own, other, binary, negation, Stmt, assign, store, send, Piece, Level}
-use Rattle.level.specs.Spelling.{size, statement}
-use Rattle.level.specs.Places.{Placed, effect_place, placed}
+use Rattle.level.specs.Syntax.{Piece, Level}
+use Rattle.level.specs.Places.{Placed, placed}
 use Rattle.level.specs.Tables.{nth}
 use Rattle.rules.specs.declared.fault.CallFault.TheVariants.{Strike}
 use Rattle.rules.specs.declared.fault.StrikeFault.TheVariants.{AtMove}
-use Rattle.rules.specs.declared.fault.Cause.{Cause}
 use Rattle.rules.specs.declared.fault.MoveFault.{MoveFault}
 use Rattle.rules.specs.declared.fault.Why.{Why}
-use Rattle.rules.specs.declared.fault.Why.TheVariants.{MovesAlready, OtherState, NoMessage, Clash, Guard, TrayFull}
+use Rattle.rules.specs.declared.fault.Why.TheVariants.{MovesAlready, OtherState, NoMessage, Clash, TrayFull}
 use Rattle.rules.specs.declared.moves.Act.{Act}
 use Rattle.rules.specs.declared.moves.Act.TheVariants.{Transition, Discard}
 use Rattle.rules.specs.declared.moves.Move.{Move}
-use Rattle.rules.specs.Arithmetic.{holds, computed}
 use Rattle.rules.specs.Game.{Game, same, Setting}
-use Rattle.rules.specs.Names.{piece_named, cell_named, transition_of}
-use Rattle.rules.specs.Trace.{Event, reads, writes, sends, Trace, halt, onward, bind, needing, Own, no_writes, seen, receipts, receive, laid_over, evaluate, evaluate_all, run, run_all, guarded, wants, unwanted}
+use Rattle.rules.specs.Names.{transition_of}
+use Rattle.rules.specs.Trace.{Event, reads, writes, sends, Trace, onward, seen}
 use Rattle.rules.specs.Checks.{Check, pass, fail, and_then, never, ended_by}
 use Rattle.rules.specs.Deed.{Deed, bears, waits, transit, discard, transit_deed, discard_deed, act_deed, deed, cell_read, cell_written, sent_to, takes_from}
 use Rattle.rules.specs.Beat.{Clashes, Earlier, nothing, and_so, one_more, left_in, along, judge, in_turn, judge_all}
 use Rattle.rules.specs.Calls.{refused, struck}
 use Rattle.rules.specs.Order.{Among, now, past, Stands, leads, later}
 use Rattle.rules.specs.Theorems.{ClashesAreReal}
+use Rattle.rules.proofs.Steps.{Steps, of_unwanted, of_transit}
 
 -- a trace's own end is no clash
 abbrev Calm : {A : Type 0} → Trace A → Type 0
@@ -36,74 +34,25 @@ calm_onward : {A B : Type 0} (es : List Event) (o : Result A Why) (k : A → Tra
 calm_onward es (Ok x) k h f e = f x e
 calm_onward es (Err w) k h f e = h cc
 
-calm_bind : {A B : Type 0} (t : Trace A) (k : A → Trace B) → Calm t → ((x : A) → Calm (k x)) → Calm (bind t k)
-calm_bind t k h f = calm_onward t.events t.out k h f
-
-calm_needing : {A B : Type 0} (c : Cause) (at : ℕ) (o : Option A) (k : A → Trace B) → ((x : A) → Calm (k x)) → Calm (needing c at o k)
-calm_needing c at None k f = λ e. absurd (false≢true cc)
-calm_needing c at (Some x) k f = f x
-
-calm_cond : {A : Type 0} (b : Bool) (t u : Trace A) → Calm t → Calm u → Calm (cond b t u)
-calm_cond true t u h k = h
-calm_cond false t u h k = k
-
 calm_seen : (g : Game) (p a : ℕ) (o : Option ℤ) → Calm (seen g p a o)
 calm_seen g p a None e = absurd (false≢true cc)
 calm_seen g p a (Some v) e = absurd (false≢true cc)
 
-calm_guard : {A : Type 0} → Calm {A = A} (halt Guard)
-calm_guard e = absurd (false≢true cc)
+calm_steps : Steps (λ A t. (g : Game) → Calm (t g))
+calm_steps = record {
+  gives = λ x g e. absurd (false≢true cc);
+  stumbles = λ s g e. absurd (false≢true cc);
+  stops = λ g e. absurd (false≢true cc);
+  looks = λ p a o g. calm_seen g p a o;
+  binds = λ t k h f g. calm_onward (t g).events (t g).out (k g) (h g) (λ x. f x g);
+}
 
-module _ (L : Level) (g : Game) (p : ℕ) where
-  calm_evaluate : (o : Own) (at : ℕ) (e : Expr) → Calm (evaluate L g p o at e)
-  calm_evaluate o at (constant z) = λ e. absurd (false≢true cc)
-  calm_evaluate o at own_piece = λ e. absurd (false≢true cc)
-  calm_evaluate o at (own a) = calm_seen g p a (o p a)
-  calm_evaluate o at (other a e) = calm_bind (evaluate L g p o (at + 2) e) _ (calm_evaluate o (at + 2) e) (λ v. calm_needing _ at (cell_named L v a) _ (λ q. calm_seen g q a (o q a)))
-  calm_evaluate o at (binary op e f) = calm_bind (evaluate L g p o (at + 1) e) _ (calm_evaluate o (at + 1) e)
-      (λ v. calm_bind (evaluate L g p o (at + 1 + size e) f) _ (calm_evaluate o (at + 1 + size e) f) (λ w. calm_needing _ at (computed op v w) _ (λ x e. absurd (false≢true cc))))
-  calm_evaluate o at (negation e) = calm_bind (evaluate L g p o (at + 1) e) _ (calm_evaluate o (at + 1) e) (λ v e. absurd (false≢true cc))
+calm_transit : (L : Level) (g : Game) (p : ℕ) (t : Placed) (b : Bool) (m : Option Message) → Calm (transit L g p t b m)
+calm_transit L g p t b m = of_transit _ calm_steps L p (λ o q a v h e. absurd (false≢true cc)) (λ o q n h e. absurd (false≢true cc)) t b m g
 
-  calm_all : (o : Own) (at : ℕ) (es : List Expr) → Calm (evaluate_all L g p o at es)
-  calm_all o at [] = λ e. absurd (false≢true cc)
-  calm_all o at (e ∷ es) = calm_bind (evaluate L g p o at e) _ (calm_evaluate o at e) (λ v. calm_bind (evaluate_all L g p o (at + size e) es) _ (calm_all o (at + size e) es) (λ vs e. absurd (false≢true cc)))
-
-  calm_run : (at : ℕ) (c : Stmt) (o : Own) → Calm (run L g p at c o)
-  calm_run at (assign a e) o = calm_bind (evaluate L g p o (at + 2) e) _ (calm_evaluate o (at + 2) e) (λ v e. absurd (false≢true cc))
-  calm_run at (store a e f) o = calm_bind (evaluate L g p o (at + 2) e) _ (calm_evaluate o (at + 2) e)
-      (λ v. calm_bind (evaluate L g p o (at + 2 + size e) f) _ (calm_evaluate o (at + 2 + size e) f) (λ w. calm_needing _ at (cell_named L v a) _ (λ q e. absurd (false≢true cc))))
-  calm_run at (send s e es) o = calm_bind (evaluate L g p o (at + 2) e) _ (calm_evaluate o (at + 2) e)
-      (λ v. calm_bind (evaluate_all L g p o (at + 2 + size e) es) _ (calm_all o (at + 2 + size e) es) (λ vs. calm_needing _ at (piece_named L v) _ (λ q e. absurd (false≢true cc))))
-
-  calm_run_all : (at : ℕ) (cs : List Stmt) (o : Own) → Calm (run_all L g p at cs o)
-  calm_run_all at [] o = λ e. absurd (false≢true cc)
-  calm_run_all at (c ∷ cs) o = calm_bind (run L g p at c o) _ (calm_run at c o) (λ o'. calm_run_all (at + length (statement c)) cs o')
-
-  calm_guarded : (t : Placed) (o : Own) → Calm (guarded L g p t o)
-  calm_guarded t o = calm_bind (evaluate L g p o t.guard t.transition.guard) _ (calm_evaluate o t.guard t.transition.guard)
-      (λ v. calm_cond (holds v) (run_all L g p (effect_place t) t.transition.effect o) (halt Guard) (calm_run_all (effect_place t) t.transition.effect o) calm_guard)
-
-  calm_receive : (l : List ℕ) (m : Message) (o : Own) → Calm (receive p (receipts l m) o)
-  calm_receive [] m o e = absurd (false≢true cc)
-  calm_receive (a ∷ []) m o e = absurd (false≢true cc)
-  calm_receive (a ∷ b ∷ l) m o e = absurd (false≢true cc)
-
-  calm_transit : (t : Placed) (b : Bool) (m : Option Message) → Calm (transit L g p t b m)
-  calm_transit t true m = calm_guarded t no_writes
-  calm_transit t false None = λ e. absurd (false≢true cc)
-  calm_transit t false (Some m) = calm_bind (receive p (receipts t.transition.receives m) no_writes) _ (calm_receive t.transition.receives m no_writes) (λ o. calm_guarded t o)
-
-  calm_unwanted : (k s : ℕ) (m : Message) (ts : List Placed) → Calm (unwanted L g p k s m ts)
-  calm_unwanted k s m [] = λ e. absurd (false≢true cc)
-  calm_unwanted k s m (t ∷ ts) =
-      let o = laid_over p (receipts t.transition.receives m) no_writes in
-      let e = evaluate L g p o t.guard t.transition.guard in
-      calm_cond (wants L g p k s m t) (bind e (λ v. cond (holds v) (halt Guard) (unwanted L g p k s m ts))) (unwanted L g p k s m ts)
-      (calm_bind e _ (calm_evaluate o t.guard t.transition.guard) (λ v. calm_cond (holds v) (halt Guard) (unwanted L g p k s m ts) calm_guard (calm_unwanted k s m ts))) (calm_unwanted k s m ts)
-
-  calm_discard : (k : ℕ) (m : Option Message) → Calm (discard L g p k m)
-  calm_discard k None = λ e. absurd (false≢true cc)
-  calm_discard k (Some m) = calm_unwanted k (g.states p) m (placed L)
+calm_discard : (L : Level) (g : Game) (p k : ℕ) (m : Option Message) → Calm (discard L g p k m)
+calm_discard L g p k None = λ e. absurd (false≢true cc)
+calm_discard L g p k (Some m) = of_unwanted _ calm_steps L p k (g.states p) m (placed L) g
 
 -- nor is any other fault of a move by itself
 record Quiet (d : Deed) : Type 0 where

@@ -1,22 +1,20 @@
 -- What a move does depends on its piece's state, on the message that it takes, and on the cells that it reads.
-use Rattle.std.proofs.Common.{◌≡◌, ℕ, ◌+◌, Bool, true, false, cond, not, ◌&&◌, eqb, List, [], ◌∷◌, ◌++◌, length, ℤ, Some, None, Ok, Err, Option, Result, refl, ap, ◌∙◌, arith}
+use Rattle.std.proofs.Common.{◌≡◌, ℕ, Bool, true, false, not, eqb, List, [], ◌∷◌, ◌++◌, ℤ, Some, None, Ok, Err, Option, Result, refl, ap, ◌∙◌, arith}
 use Rattle.std.proofs.lemmas.Bool.Decides.{nat_tests}
 use Rattle.mail.specs.declared.message.Message.{Message}
 use Rattle.mail.specs.Trays.{front}
-use Rattle.level.specs.Syntax.{Expr, constant, own_piece, own, other, binary, negation, Stmt, assign, store, send, Piece, Level}
-use Rattle.level.specs.Spelling.{size, statement}
-use Rattle.level.specs.Places.{Placed, effect_place, placed}
+use Rattle.level.specs.Syntax.{Piece, Level}
+use Rattle.level.specs.Places.{Placed, placed}
 use Rattle.level.specs.Tables.{nth}
-use Rattle.rules.specs.declared.fault.Cause.{Cause}
 use Rattle.rules.specs.declared.fault.Why.{Why}
 use Rattle.rules.specs.declared.moves.Act.{Act}
 use Rattle.rules.specs.declared.moves.Act.TheVariants.{Transition, Discard}
 use Rattle.rules.specs.declared.moves.Move.{Move}
-use Rattle.rules.specs.Arithmetic.{holds}
 use Rattle.rules.specs.Game.{Game}
-use Rattle.rules.specs.Names.{cell_named, transition_of}
-use Rattle.rules.specs.Trace.{Event, reads, writes, sends, Trace, onward, bind, needing, Own, no_writes, seen, receipts, receive, laid_over, evaluate, evaluate_all, run, run_all, guarded, unwanted}
+use Rattle.rules.specs.Names.{transition_of}
+use Rattle.rules.specs.Trace.{Event, reads, writes, sends, Trace, onward, bind, seen, unwanted}
 use Rattle.rules.specs.Deed.{transit, transit_by, discard, transit_deed, discard_deed, act_deed, deed, cell_read}
+use Rattle.rules.proofs.Steps.{Steps, of_unwanted, of_transit}
 use Rattle.rules.proofs.Split.{Frame}
 
 read_left : (xs ys : List Event) (p a : ℕ) → cell_read xs p a ≡ true → cell_read (xs ++ ys) p a ≡ true
@@ -52,55 +50,25 @@ framed_bind t k f j g h e =
     let u : t h ≡ t g = f g h (onward_agree g h (t g).events (t g).out (k g) e) in
     ap (λ x. bind x (k h)) u ∙ onward_framed g h (t g).events (t g).out k j e
 
-framed_cond : {A : Type 0} (b : Bool) (t u : Game → Trace A) → Framed t → Framed u → Framed (λ g. cond b (t g) (u g))
-framed_cond true t u f k = f
-framed_cond false t u f k = k
-
-framed_needing : {A B : Type 0} (c : Cause) (at : ℕ) (o : Option A) (k : Game → A → Trace B) → ((x : A) → Framed (λ g. k g x)) → Framed (λ g. needing c at o (k g))
-framed_needing c at None k f = λ g h e. refl
-framed_needing c at (Some x) k f = f x
-
 framed_seen : (p a : ℕ) (o : Option ℤ) → Framed (λ g. seen g p a o)
 framed_seen p a (Some v) g h e = refl
 framed_seen p a None g h e = ap (λ v. record { events = reads p a ∷ []; out = Ok v }) (e p a (grind (arith, nat_tests)))
 
+framed_steps : Steps (λ A t. Framed t)
+framed_steps = record {
+  gives = λ x g h e. refl;
+  stumbles = λ s g h e. refl;
+  stops = λ g h e. refl;
+  looks = framed_seen;
+  binds = framed_bind;
+}
+
 module _ (L : Level) (p : ℕ) where
-  pub framed_evaluate : (o : Own) (at : ℕ) (e : Expr) → Framed (λ g. evaluate L g p o at e)
-  framed_evaluate o at (constant z) = λ g h e. refl
-  framed_evaluate o at own_piece = λ g h e. refl
-  framed_evaluate o at (own a) = framed_seen p a (o p a)
-  framed_evaluate o at (other a e) = framed_bind _ _ (framed_evaluate o (at + 2) e) (λ v. framed_needing _ at (cell_named L v a) _ (λ q. framed_seen q a (o q a)))
-  framed_evaluate o at (binary op e f) = framed_bind _ _ (framed_evaluate o (at + 1) e) (λ v. framed_bind _ _ (framed_evaluate o (at + 1 + size e) f) (λ w. λ g h x. refl))
-  framed_evaluate o at (negation e) = framed_bind _ _ (framed_evaluate o (at + 1) e) (λ v. λ g h x. refl)
-
-  framed_all : (o : Own) (at : ℕ) (es : List Expr) → Framed (λ g. evaluate_all L g p o at es)
-  framed_all o at [] = λ g h e. refl
-  framed_all o at (e ∷ es) = framed_bind _ _ (framed_evaluate o at e) (λ v. framed_bind _ _ (framed_all o (at + size e) es) (λ vs. λ g h x. refl))
-
-  framed_run : (at : ℕ) (c : Stmt) (o : Own) → Framed (λ g. run L g p at c o)
-  framed_run at (assign a e) o = framed_bind _ _ (framed_evaluate o (at + 2) e) (λ v. λ g h x. refl)
-  framed_run at (store a e f) o = framed_bind _ _ (framed_evaluate o (at + 2) e) (λ v. framed_bind _ _ (framed_evaluate o (at + 2 + size e) f) (λ w. λ g h x. refl))
-  framed_run at (send s e es) o = framed_bind _ _ (framed_evaluate o (at + 2) e) (λ v. framed_bind _ _ (framed_all o (at + 2 + size e) es) (λ vs. λ g h x. refl))
-
-  pub framed_run_all : (at : ℕ) (cs : List Stmt) (o : Own) → Framed (λ g. run_all L g p at cs o)
-  framed_run_all at [] o = λ g h e. refl
-  framed_run_all at (c ∷ cs) o = framed_bind _ _ (framed_run at c o) (λ o'. framed_run_all (at + length (statement c)) cs o')
-
-  pub framed_guarded : (t : Placed) (o : Own) → Framed (λ g. guarded L g p t o)
-  framed_guarded t o = framed_bind _ _ (framed_evaluate o t.guard t.transition.guard)
-      (λ v. framed_cond (holds v) _ _ (framed_run_all (effect_place t) t.transition.effect o) (λ g h e. refl))
-
   pub framed_unwanted : (k s : ℕ) (m : Message) (ts : List Placed) → Framed (λ g. unwanted L g p k s m ts)
-  framed_unwanted k s m [] = λ g h e. refl
-  framed_unwanted k s m (t ∷ ts) = framed_cond (eqb t.kind k && (eqb t.transition.source s && eqb t.transition.signal m.signal)) _ _
-      (framed_bind _ _ (framed_evaluate (laid_over p (receipts t.transition.receives m) no_writes) t.guard t.transition.guard)
-      (λ v. framed_cond (holds v) _ _ (λ g h e. refl) (framed_unwanted k s m ts)))
-      (framed_unwanted k s m ts)
+  framed_unwanted = of_unwanted _ framed_steps L p
 
   pub framed_transit : (t : Placed) (b : Bool) (m : Option Message) → Framed (λ g. transit L g p t b m)
-  framed_transit t true m = framed_guarded t no_writes
-  framed_transit t false None = λ g h e. refl
-  framed_transit t false (Some m) = framed_bind (λ g. receive p (receipts t.transition.receives m) no_writes) _ (λ g h e. refl) (λ o. framed_guarded t o)
+  framed_transit = of_transit _ framed_steps L p (λ o q a v g h e. refl) (λ o q m g h e. refl)
 
   transit_same : (g h : Game) (t : Placed) (b : Bool) → h.states p ≡ g.states p → (not b ≡ true → front (h.trays p) ≡ front (g.trays p))
       → Agree g h (transit L g p t b (front (g.trays p))).events

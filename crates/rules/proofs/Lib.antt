@@ -1,4 +1,5 @@
 -- From the frame of a move to the law over runs, and from the trace to the published semantics.
+pub mod Steps
 pub mod Points
 pub mod Fine
 pub mod Swap

@@ -3,7 +3,7 @@ use Rattle.std.proofs.Common.{◌≡◌, ℕ, zero, suc, ◌+◌, ◌*◌, ◌<�
 use Rattle.std.proofs.lemmas.Bool.{leb-true, and_parts}
 use Rattle.mail.specs.declared.message.Message.{Message}
 use Rattle.mail.specs.Trays.{front}
-use Rattle.level.specs.Syntax.{Expr, constant, own_piece, own, other, binary, negation, Stmt, assign, store, send, Transition, Kind, Piece, Level}
+use Rattle.level.specs.Syntax.{Expr, Stmt, assign, store, send, Transition, Kind, Piece, Level}
 use Rattle.level.specs.Spelling.{size, statement, transition, kind}
 use Rattle.level.specs.Sound.{Each, SoundKind, SoundTransition, Sound, most_statements}
 use Rattle.level.specs.Places.{Placed, effect_place, placed_at, in_kind, in_kinds, placed}
@@ -18,15 +18,16 @@ use Rattle.rules.specs.declared.moves.Act.TheVariants.{Discard}
 use Rattle.rules.specs.declared.moves.Act.TheVariants as act
 use Rattle.rules.specs.declared.moves.Move.{Move}
 use Rattle.rules.specs.declared.trail.Parcel.{Parcel}
-use Rattle.rules.specs.Arithmetic.{holds, computed}
+use Rattle.rules.specs.Arithmetic.{holds}
 use Rattle.rules.specs.Game.{Game, Setting}
 use Rattle.rules.specs.Names.{then, piece_named, cell_named, transition_of}
-use Rattle.rules.specs.Trace.{Event, reads, writes, sends, Trace, halt, onward, bind, needing, Own, no_writes, seen, receipts, receive, laid_over, evaluate, evaluate_all, run, run_all, guarded, wants, unwanted}
+use Rattle.rules.specs.Trace.{Event, reads, writes, sends, Trace, halt, onward, bind, needing, Own, no_writes, seen, receipts, receive, evaluate, evaluate_all, run, run_all, guarded, unwanted}
 use Rattle.rules.specs.Checks.{Check, pass, fail}
 use Rattle.rules.specs.Deed.{transit, discard, transit_deed, discard_deed, act_deed, deed}
 use Rattle.rules.specs.Beat.{nothing, judge_all, changes_of, parcels_of, changes, parcels}
 use Rattle.rules.specs.Calls.{full, Call, tap, fire, strike, After, move_of, moves_of, yield, tap_check, tapped, struck, beat, listed, call}
 use Rattle.rules.specs.Theorems.{TrailsSuffice}
+use Rattle.rules.proofs.Steps.{Steps, of_evaluate, of_evaluate_all, of_unwanted}
 
 -- the weight of events, where a write counts w and a send s
 abbrev pub weight : ℕ → ℕ → List Event → ℕ
@@ -69,19 +70,22 @@ module _ (w s : ℕ) where
   weight_seen g p a (Some v) = omega arith
   weight_seen g p a None = omega arith
 
+  -- evaluations and trials weigh nothing
+  weightless : Steps (λ A t. (g : Game) → weight w s (t g).events ≤ 0)
+  weightless = record {
+    gives = λ x g. omega arith;
+    stumbles = λ f g. omega arith;
+    stops = λ g. omega arith;
+    looks = λ p a o g. weight_seen g p a o;
+    binds = λ t k h f g. weight_bind (t g) (k g) 0 0 (h g) (λ x. f x g);
+  }
+
   module _ (L : Level) (g : Game) (p : ℕ) where
     pub weight_evaluate : (o : Own) (at : ℕ) (e : Expr) → weight w s (evaluate L g p o at e).events ≤ 0
-    weight_evaluate o at (constant z) = omega arith
-    weight_evaluate o at own_piece = omega arith
-    weight_evaluate o at (own a) = weight_seen g p a (o p a)
-    weight_evaluate o at (other a e) = weight_bind (evaluate L g p o (at + 2) e) _ 0 0 (weight_evaluate o (at + 2) e) (λ v. weight_needing _ at (cell_named L v a) _ 0 (λ q. weight_seen g q a (o q a)))
-    weight_evaluate o at (binary op e f) = weight_bind (evaluate L g p o (at + 1) e) _ 0 0 (weight_evaluate o (at + 1) e)
-        (λ v. weight_bind (evaluate L g p o (at + 1 + size e) f) _ 0 0 (weight_evaluate o (at + 1 + size e) f) (λ u. weight_needing _ at (computed op v u) _ 0 (λ x. omega arith)))
-    weight_evaluate o at (negation e) = weight_bind (evaluate L g p o (at + 1) e) _ 0 0 (weight_evaluate o (at + 1) e) (λ v. omega arith)
+    weight_evaluate o at e = of_evaluate _ weightless L p o at e g
 
     pub weight_evaluate_all : (o : Own) (at : ℕ) (es : List Expr) → weight w s (evaluate_all L g p o at es).events ≤ 0
-    weight_evaluate_all o at [] = omega arith
-    weight_evaluate_all o at (e ∷ es) = weight_bind (evaluate L g p o at e) _ 0 0 (weight_evaluate o at e) (λ v. weight_bind (evaluate_all L g p o (at + size e) es) _ 0 0 (weight_evaluate_all o (at + size e) es) (λ vs. omega arith))
+    weight_evaluate_all o at es = of_evaluate_all _ weightless L p o at es g
 
     module _ (w1 : w ≤ 1) (s1 : s ≤ 1) where
       weight_run : (at : ℕ) (c : Stmt) (o : Own) → weight w s (run L g p at c o).events ≤ 1
@@ -117,20 +121,7 @@ module _ (w s : ℕ) where
           weight_bind (receive p (receipts t.transition.receives m) no_writes) (guarded L g p t) (w * 2) (length t.transition.effect) (weight_receive t.transition.receives m no_writes) (λ o. weight_guarded t o)
 
     pub weight_unwanted : (k z : ℕ) (m : Message) (ts : List Placed) → weight w s (unwanted L g p k z m ts).events ≤ 0
-    weight_unwanted k z m [] = omega arith
-    weight_unwanted k z m (t ∷ ts) = go (wants L g p k z m t) (weight_unwanted k z m ts)
-      where
-        o : Own
-        o = laid_over p (receipts t.transition.receives m) no_writes
-
-        inner : (b : Bool) → weight w s (unwanted L g p k z m ts).events ≤ 0 → weight w s (cond b (halt Guard) (unwanted L g p k z m ts)).events ≤ 0
-        inner true h = omega arith
-        inner false h = h
-
-        go : (b : Bool) → weight w s (unwanted L g p k z m ts).events ≤ 0
-            → weight w s (cond b (bind (evaluate L g p o t.guard t.transition.guard) (λ v. cond (holds v) (halt Guard) (unwanted L g p k z m ts))) (unwanted L g p k z m ts)).events ≤ 0
-        go true h = weight_bind (evaluate L g p o t.guard t.transition.guard) _ 0 0 (weight_evaluate o t.guard t.transition.guard) (λ v. inner (holds v) h)
-        go false h = h
+    weight_unwanted k z m ts = of_unwanted _ weightless L p k z m ts g
 
     pub weight_discard : (k : ℕ) (m : Option Message) → weight w s (discard L g p k m).events ≤ 0
     weight_discard k None = omega arith
@@ -192,29 +183,8 @@ module _ (L : Level) (P : Placed → Type 0) (one : (k n i m : ℕ) (t : Transit
 abbrev Few : Placed → Type 0
 Few t = length t.transition.effect ≤ most_statements
 
-few_kind : (signals : List ℕ) (k n i m : ℕ) (ts : List Transition) → Each (SoundTransition signals n m) ts → Each Few (in_kind k n i ts)
-few_kind signals k n i m [] h = tt
-few_kind signals k n i m (t ∷ ts) h = (h.0.statements, few_kind signals k n (i + length (transition t)) m ts h.1)
-
-few_kinds : (signals : List ℕ) (k i : ℕ) (xs : List Kind) → Each (SoundKind signals) xs → Each Few (in_kinds k i xs)
-few_kinds signals k i [] h = tt
-few_kinds signals k i (x ∷ xs) h = each_append Few (in_kind k x.numbers (i + 3) x.transitions) _
-    (few_kind signals k x.numbers (i + 3) x.states x.transitions h.0.transitions) (few_kinds signals (k + 1) (i + length (kind x)) xs h.1)
-
 few_of : (L : Level) (p n : ℕ) → Sound L → Maybe Few (transition_of L p n)
-few_of L p n sound = piece (nth L.pieces p)
-  where
-    same : (b : Bool) (t : Placed) → Few t → Maybe Few (cond b (Some t) None)
-    same true t h = h
-    same false t h = tt
-
-    found : (x : Piece) (o : Option Placed) → Maybe Few o → Maybe Few (then o (λ t. cond (eqb t.kind x.kind) (Some t) None))
-    found x None h = tt
-    found x (Some t) h = same (eqb t.kind x.kind) t h
-
-    piece : (o : Option Piece) → Maybe Few (then o (λ x. then (nth (placed L) n) (λ t. cond (eqb t.kind x.kind) (Some t) None)))
-    piece None = tt
-    piece (Some x) = found x (nth (placed L) n) (each_nth Few (placed L) n (few_kinds L.signals 0 _ L.kinds sound.kinds))
+few_of L p n sound = maybe_weaker _ Few (λ t h. h.0) (transition_of L p n) (transition_has L Few (λ k n i m t l h. h.statements) sound p n)
 
 module _ (L : Level) (sound : Sound L) (g : Game) where
   weight_of : (w s : ℕ) → w ≤ 1 → s ≤ 1 → (p : ℕ) (o : Option Placed) → Maybe Few o → weight w s (transit_deed L g p o).events ≤ w * 2 + 8
