@@ -1,5 +1,5 @@
 -- A move is refused for a clash only where it clashes with an earlier one.
-use Rattle.std.proofs.Common.{◌≡◌, ℕ, suc, ◌+◌, Bool, true, false, not, ◌&&◌, ◌||◌, eqb, ◌⊎◌, List, [], ◌∷◌, ℤ, Some, None, Ok, Err, Option, Result, sym, refl, ap, ◌∙◌, subst, inl, inr, ⊎_elim, arith}
+use Rattle.std.proofs.Common.{◌≡◌, ℕ, suc, ◌+◌, Bool, true, not, ◌&&◌, ◌||◌, eqb, ◌⊎◌, List, [], ◌∷◌, ℤ, Some, None, Err, Option, Result, sym, refl, ap, ◌∙◌, subst, inl, inr, ⊎_elim, arith}
 use Rattle.std.proofs.lemmas.Bool.{false≢true, or_cases, or_left, or_right, and_parts, eq-eqb}
 use Rattle.std.proofs.lemmas.Bool.Decides.{nat_tests}
 use Rattle.mail.specs.declared.message.Message.{Message}
@@ -11,7 +11,7 @@ use Rattle.rules.specs.declared.fault.CallFault.TheVariants.{Strike}
 use Rattle.rules.specs.declared.fault.StrikeFault.TheVariants.{AtMove}
 use Rattle.rules.specs.declared.fault.MoveFault.{MoveFault}
 use Rattle.rules.specs.declared.fault.Why.{Why}
-use Rattle.rules.specs.declared.fault.Why.TheVariants.{MovesAlready, OtherState, NoMessage, Clash, TrayFull}
+use Rattle.rules.specs.declared.fault.Why.TheVariants.{MovesAlready, OtherState, Clash, TrayFull}
 use Rattle.rules.specs.declared.moves.Act.{Act}
 use Rattle.rules.specs.declared.moves.Act.TheVariants.{Transition, Discard}
 use Rattle.rules.specs.declared.moves.Move.{Move}
@@ -31,12 +31,10 @@ abbrev Calm : {A : Type 0} → Trace A → Type 0
 Calm t = t.out ≡ Err Clash → ⊥
 
 calm_onward : {A B : Type 0} (es : List Event) (o : Result A Why) (k : A → Trace B) → (o ≡ Err Clash → ⊥) → ((x : A) → Calm (k x)) → Calm (onward es o k)
-calm_onward es (Ok x) k h f e = f x e
-calm_onward es (Err w) k h f e = h cc
+calm_onward es o k h e = grind arith
 
 calm_seen : (g : Game) (p a : ℕ) (o : Option ℤ) → Calm (seen g p a o)
-calm_seen g p a None e = absurd (false≢true cc)
-calm_seen g p a (Some v) e = absurd (false≢true cc)
+calm_seen g p a o = grind arith
 
 calm_steps : Steps (λ A t. (g : Game) → Calm (t g))
 calm_steps = record {
@@ -61,25 +59,16 @@ record Quiet (d : Deed) : Type 0 where
   ended : d.ended ≡ fail Clash → ⊥
 
 calm_ended : {A : Type 0} (o : Result A Why) → (o ≡ Err Clash → ⊥) → ended_by o ≡ fail Clash → ⊥
-calm_ended (Ok x) h e = absurd (false≢true cc)
-calm_ended (Err w) h e = h cc
+calm_ended o h k = grind arith
 
 quiet_bears : (b : Bool) (s : ℕ) (m : Option Message) → bears b s m ≡ fail Clash → ⊥
-quiet_bears true s m e = absurd (false≢true cc)
-quiet_bears false s None e = absurd (false≢true cc)
-quiet_bears false s (Some m) e = go (eqb s m.signal) e
-  where
-    go : (b : Bool) → never (not b) NoMessage ≡ fail Clash → ⊥
-    go true h = absurd (false≢true cc)
-    go false h = absurd (false≢true cc)
+quiet_bears b s m h = grind arith
 
 quiet_state : (b : Bool) (c : Check Why) → (c ≡ fail Clash → ⊥) → and_then (never (not b) OtherState) c ≡ fail Clash → ⊥
-quiet_state true c h e = h e
-quiet_state false c h e = absurd (false≢true cc)
+quiet_state b c h k = grind arith
 
 quiet_waits : (m : Option Message) → waits m ≡ fail Clash → ⊥
-quiet_waits None e = absurd (false≢true cc)
-quiet_waits (Some m) e = absurd (false≢true cc)
+quiet_waits m h = grind arith
 
 quiet_transit : (L : Level) (g : Game) (p : ℕ) (o : Option Placed) → Quiet (transit_deed L g p o)
 quiet_transit L g p None = record { known = λ e. absurd (false≢true cc); ready = λ e. absurd (false≢true cc); ended = λ e. absurd (false≢true cc) }
@@ -112,8 +101,7 @@ Met s es =
     ⊎ ((q : ℕ) × (sent_to es q ≡ true) × (s.sent q ≡ true)))
 
 met_past_read : (s : Earlier) (p a : ℕ) (es : List Event) → Met s es → Met s (reads p a ∷ es)
-met_past_read s p a es (inl (q, b, h, k)) = inl (q, b, or_right (same p a q b) _ h, k)
-met_past_read s p a es (inr m) = inr m
+met_past_read s p a es h = grind arith
 
 met_past_write : (s : Earlier) (p a : ℕ) (v : ℤ) (es : List Event) → Met s es → Met s (writes p a v ∷ es)
 met_past_write s p a v es (inl m) = inl m
@@ -127,20 +115,16 @@ met_past_send s q m es (inr (inr (r, h, k))) = inr (inr (r, or_right (eqb q r) _
 
 -- a test that fails for a clash, or the next one does
 next_clash : (b : Bool) (c : Check Why) → and_then (never b Clash) c ≡ fail Clash → (b ≡ true) ⊎ (c ≡ fail Clash)
-next_clash true c h = inl refl
-next_clash false c h = inr h
+next_clash b c h = grind arith
 
 next_full : (b : Bool) (c : Check Why) → and_then (never b TrayFull) c ≡ fail Clash → c ≡ fail Clash
-next_full true c h = absurd (false≢true cc)
-next_full false c h = h
+next_full b c h = grind arith
 
 next_moved : (b : Bool) (c : Check Why) → and_then (never b MovesAlready) c ≡ fail Clash → c ≡ fail Clash
-next_moved true c h = absurd (false≢true cc)
-next_moved false c h = h
+next_moved b c h = grind arith
 
 next_own : (x c : Check Why) → (x ≡ fail Clash → ⊥) → and_then x c ≡ fail Clash → c ≡ fail Clash
-next_own pass c h e = e
-next_own (fail w) c h e = absurd (h e)
+next_own x c h k = grind arith
 
 module _ (limit : ℕ) (g : Game) (s : Earlier) (d : Deed) (q : Quiet d) where
   met_along : (n : ℕ → ℕ) (es : List Event) → along limit g s d n es ≡ fail Clash → Met s es
@@ -210,8 +194,7 @@ module _ (L : Level) (g : Game) where
       go (fail w) j k r = here w j cc
 
 struck_fault : (S : Setting) (g : Game) (ms : List Move) (c : Check MoveFault) (f : MoveFault) → (struck S g ms c).answer ≡ refused (Strike (AtMove f)) → c ≡ fail f
-struck_fault S g ms pass f h = absurd (false≢true cc)
-struck_fault S g ms (fail w) f h = cc
+struck_fault S g ms c f h = grind arith
 
 pub clashes_are_real : ClashesAreReal
 clashes_are_real S g ms f h e =

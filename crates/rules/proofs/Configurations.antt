@@ -20,20 +20,16 @@ told (Ok x) = Some x
 told (Err w) = None
 
 pub then_same : {A B : Type 0} (o : Option A) (j k : A → Option B) → ((x : A) → j x ≡ k x) → then o j ≡ then o k
-then_same None j k h = refl
-then_same (Some x) j k h = h x
+then_same o j k h = grind arith
 
 then_then : {A B C : Type 0} (o : Option A) (j : A → Option B) (k : B → Option C) → then (then o j) k ≡ then o (λ x. then (j x) k)
-then_then None j k = refl
-then_then (Some x) j k = refl
+then_then o j k = grind arith
 
 told_onward : {A B : Type 0} (es : List Event) (o : Result A Why) (k : A → Trace B) → told (onward es o k).out ≡ then (told o) (λ x. told (k x).out)
-told_onward es (Ok x) k = refl
-told_onward es (Err w) k = refl
+told_onward es o k = grind arith
 
 told_needing : {A B : Type 0} (c : Cause) (at : ℕ) (o : Option A) (k : A → Trace B) → told (needing c at o k).out ≡ then o (λ x. told (k x).out)
-told_needing c at None k = refl
-told_needing c at (Some x) k = refl
+told_needing c at o k = grind arith
 
 pub told_bind : {A B : Type 0} (t : Trace A) (k : A → Trace B) (o : Option A) (j : A → Option B)
     → told t.out ≡ o → ((x : A) → told (k x).out ≡ j x) → told (bind t k).out ≡ then o j
@@ -49,12 +45,10 @@ abbrev pub Lay : Game → Own → Game → Type 0
 Lay g o c = (q a : ℕ) → c.numbers q a ≡ laid (o q a) (g.numbers q a)
 
 told_seen : (g : Game) (q a : ℕ) (o : Option ℤ) → told (seen g q a o).out ≡ Some (laid o (g.numbers q a))
-told_seen g q a None = refl
-told_seen g q a (Some v) = refl
+told_seen g q a o = grind arith
 
 lay_over : (b : Bool) (v z w : ℤ) (o : Option ℤ) → z ≡ laid o w → cond b v z ≡ laid (cond b (Some v) o) w
-lay_over true v z w o h = refl
-lay_over false v z w o h = h
+lay_over b v z w o h = grind arith
 
 lay_set : (g c : Game) (o : Own) (p a : ℕ) (v : ℤ) → Lay g o c → Lay g (over o p a v) (number_set c p a v)
 lay_set g c o p a v h q b = lay_over (same p a q b) v (c.numbers q b) (g.numbers q b) (o q b) (h q b)
@@ -124,8 +118,7 @@ module _ (S : Setting) where
           (λ w. told_needing _ at (computed op v w) _ ∙ some_same (computed op v w)))
         where
           some_same : (x : Option ℤ) → then x (λ v. Some v) ≡ x
-          some_same None = refl
-          some_same (Some v) = refl
+          some_same x = grind arith
       told_evaluate at (negation e) = told_bind (evaluate S.level g p o (at + 1) e) _ _ _ (told_evaluate (at + 1) e) (λ v. refl)
 
       told_all : (at : ℕ) (es : List Expr) → told (evaluate_all S.level g p o at es).out ≡ values S c p es

@@ -1,6 +1,5 @@
 -- What a move does depends on its piece's state, on the message that it takes, and on the cells that it reads.
 use Rattle.std.proofs.Common.{◌≡◌, ℕ, Bool, true, false, not, eqb, List, [], ◌∷◌, ◌++◌, ℤ, Some, None, Ok, Err, Option, Result, refl, ap, ◌∙◌, arith}
-use Rattle.std.proofs.lemmas.Bool.Decides.{nat_tests}
 use Rattle.mail.specs.declared.message.Message.{Message}
 use Rattle.mail.specs.Trays.{front}
 use Rattle.level.specs.Syntax.{Piece, Level}
@@ -42,8 +41,7 @@ onward_framed g h es (Ok x) k f e = ap (λ t. record { events = es ++ t.events; 
 onward_framed g h es (Err w) k f e = refl
 
 onward_agree : {A B : Type 0} (g h : Game) (es : List Event) (o : Result A Why) (k : A → Trace B) → Agree g h (onward es o k).events → Agree g h es
-onward_agree g h es (Ok x) k e = λ p a r. e p a (read_left es _ p a r)
-onward_agree g h es (Err w) k e = e
+onward_agree g h es o k e = grind (arith, read_left)
 
 framed_bind : {A B : Type 0} (t : Game → Trace A) (k : Game → A → Trace B) → Framed t → ((x : A) → Framed (λ g. k g x)) → Framed (λ g. bind (t g) (k g))
 framed_bind t k f j g h e =
@@ -51,8 +49,7 @@ framed_bind t k f j g h e =
     ap (λ x. bind x (k h)) u ∙ onward_framed g h (t g).events (t g).out k j e
 
 framed_seen : (p a : ℕ) (o : Option ℤ) → Framed (λ g. seen g p a o)
-framed_seen p a (Some v) g h e = refl
-framed_seen p a None g h e = ap (λ v. record { events = reads p a ∷ []; out = Ok v }) (e p a (grind (arith, nat_tests)))
+framed_seen p a o = grind arith
 
 framed_steps : Steps (λ A t. Framed t)
 framed_steps = record {
@@ -94,12 +91,10 @@ module _ (L : Level) (p : ℕ) where
   discard_frame g h (Some x) e f a = rw (f refl, discard_same g h x.kind (front (g.trays p)) e a, e)
 
 transit_mover : (L : Level) (g : Game) (p : ℕ) (o : Option Placed) → (transit_deed L g p o).mover ≡ p
-transit_mover L g p None = refl
-transit_mover L g p (Some t) = refl
+transit_mover L g p o = grind arith
 
 discard_mover : (L : Level) (g : Game) (p : ℕ) (o : Option Piece) → (discard_deed L g p o).mover ≡ p
-discard_mover L g p None = refl
-discard_mover L g p (Some x) = refl
+discard_mover L g p o = grind arith
 
 frame_act : (L : Level) (g h : Game) (p : ℕ) (m : Act) → h.states (act_deed L g p m).mover ≡ g.states (act_deed L g p m).mover
     → ((act_deed L g p m).takes ≡ true → front (h.trays (act_deed L g p m).mover) ≡ front (g.trays (act_deed L g p m).mover))

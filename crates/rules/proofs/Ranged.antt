@@ -1,6 +1,6 @@
 -- In a sound level a move writes only cells in the table, and sends only to pieces in it.
-use Rattle.std.proofs.Common.{◌≡◌, ℕ, ◌+◌, ◌<◌, ◌≤◌, Bool, true, false, cond, eqb, ltb, List, [], ◌∷◌, ◌++◌, map, length, ℤ, pos, negsuc, Some, None, Ok, Err, Option, Result, arith}
-use Rattle.std.proofs.lemmas.Bool.{ltb-true, false≢true}
+use Rattle.std.proofs.Common.{◌≡◌, ℕ, ◌+◌, ◌<◌, ◌≤◌, Bool, true, false, cond, eqb, ltb, List, [], ◌∷◌, ◌++◌, map, length, ℤ, Some, None, Ok, Err, Option, Result, arith}
+use Rattle.std.proofs.lemmas.Bool.{false≢true}
 use Rattle.mail.specs.declared.message.Message.{Message}
 use Rattle.mail.specs.Trays.{front}
 use Rattle.level.specs.Syntax.{Expr, Stmt, assign, store, send, Transition, Piece, Level}
@@ -62,9 +62,7 @@ Narrow (store a e f) = a < 8
 Narrow (send s e es) = Unit {0}
 
 narrow : (signals : List ℕ) (n : ℕ) → n ≤ 8 → (c : Stmt) → SoundStmt signals n c → Narrow c
-narrow signals n l (assign a e) h = let k = h.0 in omega arith
-narrow signals n l (store a e f) h = h.0
-narrow signals n l (send s e es) h = tt
+narrow signals n h c k = grind arith
 
 each_weaker : {A : Type 0} (P Q : A → Type 0) → ((x : A) → P x → Q x) → (xs : List A) → Each P xs → Each Q xs
 each_weaker P Q f [] h = tt
@@ -79,8 +77,7 @@ narrows signals k n i m t l h = (each_weaker _ _ (λ a u. omega arith) t.receive
 
 module _ (L : Level) (few : length L.pieces ≤ 32) where
   piece_in : (v : ℤ) → Maybe (λ q. q < 32) (piece_named L v)
-  piece_in (pos n) = maybe_cond _ (ltb n (length L.pieces)) n (λ e. let h = ltb-true n (length L.pieces) e in omega arith)
-  piece_in (negsuc n) = tt
+  piece_in v = grind arith
 
   cell_in : (v : ℤ) (a : ℕ) → Maybe (λ q. q < 32) (cell_named L v a)
   cell_in v a = maybe_then (λ q. q < 32) _ (piece_named L v) _ (piece_in v) (λ q h. maybe_cond _ (ltb a (numbers_in L (nth L.pieces q))) q (λ e. h))

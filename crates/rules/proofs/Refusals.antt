@@ -1,5 +1,5 @@
 -- A refused call is a refusal and nothing else.
-use Rattle.std.proofs.Common.{◌≡◌, Bool, true, false, cond, ◌&&◌, leb, List, [], ◌∷◌, length, Some, None, Option, ap}
+use Rattle.std.proofs.Common.{◌≡◌, Bool, cond, ◌&&◌, leb, List, [], ◌∷◌, length, Some, None, Option, arith}
 use Rattle.rules.specs.declared.fault.CallFault.{CallFault}
 use Rattle.rules.specs.declared.fault.CallFault.TheVariants.{Strike}
 use Rattle.rules.specs.declared.fault.MoveFault.{MoveFault}
@@ -8,7 +8,7 @@ use Rattle.rules.specs.declared.fault.TapFault.{TapFault}
 use Rattle.rules.specs.declared.moves.Move.{Move}
 use Rattle.rules.specs.declared.trail.Parcel.{Parcel}
 use Rattle.rules.specs.Game.{Game, Setting}
-use Rattle.rules.specs.Checks.{Check, pass, fail}
+use Rattle.rules.specs.Checks.{Check}
 use Rattle.rules.specs.Beat.{nothing, judge_all}
 use Rattle.rules.specs.Calls.{full, tap, fire, strike, refused, After, refuse, move_of, moves_of, yield, tap_check, tapped, struck, beat, listed}
 use Rattle.rules.specs.Theorems.{RefusalsChangeNothing}
@@ -19,19 +19,16 @@ module _ (S : Setting) (g : Game) where
   Plain f a = a.answer ≡ refused f → a ≡ refuse f g
 
   plain_refuse : (f e : CallFault) → Plain f (refuse e g)
-  plain_refuse f e h = ap (λ x. refuse x g) cc
+  plain_refuse f e = grind arith
 
   plain_cond : (f : CallFault) (b : Bool) (x y : After) → Plain f x → Plain f y → Plain f (cond b x y)
-  plain_cond f true x y h k = h
-  plain_cond f false x y h k = k
+  plain_cond f b x y h k = grind arith
 
   plain_struck : (f : CallFault) (ms : List Move) (c : Check MoveFault) → Plain f (struck S g ms c)
-  plain_struck f ms pass h = cc
-  plain_struck f ms (fail w) h = ap (λ x. refuse x g) cc
+  plain_struck f ms c = grind arith
 
   plain_tapped : (f : CallFault) (ps : List Parcel) (c : Check TapFault) → Plain f (tapped S g ps c)
-  plain_tapped f ps pass h = cc
-  plain_tapped f ps (fail w) h = ap (λ x. refuse x g) cc
+  plain_tapped f ps c = grind arith
 
   plain_listed : (f : CallFault) (o : Option (List Move)) → Plain f (listed S g o)
   plain_listed f None = plain_refuse f (Strike NotMoves)

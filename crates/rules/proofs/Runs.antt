@@ -42,12 +42,10 @@ reordered_length k r none = refl
 reordered_length k r (first {x = x} {l = l} {r = r'} i p) = insert_length x l k i ∙ ap suc (reordered_length l r' p)
 
 pub turn_pass : (limit : ℕ) (g : Game) (c : Check Why) (i : ℕ) (m : Move) (k : Check MoveFault) → in_turn limit g c i m k ≡ pass → (c ≡ pass) × (k ≡ pass)
-turn_pass limit g pass i m k h = (refl, h)
-turn_pass limit g (fail w) i m k h = (cc, cc)
+turn_pass limit g c i m k h = grind arith
 
 pub pass_turn : (limit : ℕ) (g : Game) (c : Check Why) (i : ℕ) (m : Move) (k : Check MoveFault) → c ≡ pass → k ≡ pass → in_turn limit g c i m k ≡ pass
-pass_turn limit g pass i m k h e = e
-pass_turn limit g (fail w) i m k h e = cc
+pass_turn limit g c i m k h e = grind arith
 
 module _ (S : Setting) where
   pub passed_run : (g : Game) (s : Earlier) (i : ℕ) (ms : List Move) → Within S.limit g → judge_all S.limit g S.level s i ms ≡ pass → Run S.limit g s (map (deed S.level g) ms)
@@ -82,12 +80,10 @@ module _ (S : Setting) where
       cond-true _ _ _ l ∙ cond-true _ _ _ (and_from _ _ (le-leb 1 _ a) (le-leb _ 16 b)) ∙ ap (struck S g ms) (run_passed g nothing 0 ms r)
 
   pub cond_accepted : (b : Bool) (x : After) (f : CallFault) (g : Game) (n : ℕ) → (cond b x (refuse f g)).answer ≡ accepted n → (b ≡ true) × (x.answer ≡ accepted n)
-  cond_accepted true x f g n h = (refl, h)
-  cond_accepted false x f g n h = (cc, cc)
+  cond_accepted b x f g n h = grind arith
 
   pub struck_accepted : (g : Game) (ms : List Move) (c : Check MoveFault) (n : ℕ) → (struck S g ms c).answer ≡ accepted n → (c ≡ pass) × (n ≡ length ms)
-  struck_accepted g ms pass n e = (refl, cc)
-  struck_accepted g ms (fail f) n e = (cc, cc)
+  struck_accepted g ms c n h = grind arith
 
   accepted_listed : (g : Game) (t : Lent) (ms : List Move) (n : ℕ) → (lent S g t (listed S g (Some ms))).answer ≡ accepted n → Accepted g t ms n
   accepted_listed g t ms n h =
@@ -140,8 +136,7 @@ module _ (S : Setting) where
 
   -- no tray grows over the limit
   within_cond : (b : Bool) (x y : After) → Within S.limit x.game → Within S.limit y.game → Within S.limit (cond b x y).game
-  within_cond true x y h k = h
-  within_cond false x y h k = k
+  within_cond b x y h k = grind arith
 
   within_struck : (g : Game) (ms : List Move) (c : Check MoveFault) → Within S.limit g → judge_all S.limit g S.level nothing 0 ms ≡ c → Within S.limit (struck S g ms c).game
   within_struck g ms pass w e = within_run S.limit S.place (deed S.level) (frame S.level) g ms w (passed_run g nothing 0 ms w e)

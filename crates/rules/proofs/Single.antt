@@ -1,8 +1,7 @@
 -- Fire accepts exactly the moves that the published semantics enables, and ends where it says.
-use Rattle.std.proofs.Common.{◌≡◌, ℕ, suc, ◌+◌, Bool, true, false, cond, not, eqb, List, [], ◌∷◌, length, ℤ, Some, None, Ok, Err, Option, Result, sym, refl, ap, ◌∙◌, subst, arith}
+use Rattle.std.proofs.Common.{◌≡◌, ℕ, suc, ◌+◌, Bool, true, false, cond, not, eqb, List, [], ◌∷◌, length, ℤ, Some, None, Option, Result, sym, refl, ap, ◌∙◌, subst, arith}
 use Rattle.std.proofs.lemmas.Bool.{false≢true, eqb-true, eqb-false, eq-eqb, ne_eqb, and_parts, and_from, cond-true}
 use Rattle.std.proofs.lemmas.List.{append-nil}
-use Rattle.std.proofs.lemmas.Bool.Decides.{nat_tests}
 use Rattle.mail.specs.declared.message.Message.{Message}
 use Rattle.mail.specs.Trays.{front, take_trays}
 use Rattle.level.specs.Syntax.{Piece}
@@ -24,8 +23,8 @@ use Rattle.rules.specs.Calls.{full, fire, move_of, beat, struck, call}
 use Rattle.rules.specs.Order.{Among, now, past}
 use Rattle.rules.specs.Single.{number_set, state_set, dequeued, received, value, execute_all, Fails, Step, spontaneous, triggered, consumed}
 use Rattle.rules.specs.Theorems.{FireIsAStep}
-use Rattle.rules.proofs.Points.{put, taken_at, put_at}
-use Rattle.rules.proofs.Within.{put_length, cond_tail}
+use Rattle.rules.proofs.Points.{put, put_at}
+use Rattle.rules.proofs.Within.{put_length}
 use Rattle.rules.proofs.Configurations.{told, told_bind, lay_filled, replay, replay_only, told_evaluate, through_guarded, through_receive}
 use Rattle.rules.proofs.Trails.{weight_unwanted}
 use Rattle.rules.proofs.Runs.{cond_accepted, struck_accepted, turn_pass, pass_turn}
@@ -83,9 +82,7 @@ module _ (S : Setting) where
     begun = record { states = g.states; numbers = g.numbers; trays = cond d.takes (take_trays g.trays d.mover) g.trays }
 
     sized_begun : Sized begun (λ q. 0)
-    sized_begun q =
-        let e = ap length (taken_at S.place g.trays d q) in
-        let k = cond_tail (takes_from d q) (g.trays q) in omega arith
+    sized_begun q = grind arith
 
     outcome_ran : outcome S.place g (d ∷ []) ≡ state_set (ran begun d.events) d.mover d.target
     outcome_ran = rw (append-nil (changes_of d.events), append-nil (parcels_of d.events))
@@ -98,33 +95,23 @@ module _ (S : Setting) where
 
   -- a trace carried out to its end
   through_parts : {A : Type 0} (x : Option Game) (o : Result A Why) (c : Game) → then x (λ y. then (told o) (λ _. Some y)) ≡ Some c → (x ≡ Some c) × (ended_by o ≡ pass)
-  through_parts None o c h = (cc, cc)
-  through_parts (Some y) (Ok a) c h = (h, refl)
-  through_parts (Some y) (Err w) c h = (cc, cc)
+  through_parts x o c h = grind arith
 
   parts_through : {A : Type 0} (x : Option Game) (o : Result A Why) (c : Game) → x ≡ Some c → ended_by o ≡ pass → then x (λ y. then (told o) (λ _. Some y)) ≡ Some c
-  parts_through x (Ok a) c h e = rw h
-  parts_through x (Err w) c h e = cc
+  parts_through x o c h k = grind arith
 
   -- a guard that holds, and then an effect that runs to its end
   guarded_parts : (o : Option ℤ) (r : Option Game) (c : Game) → then o (λ v. cond (holds v) r None) ≡ Some c → ((z : ℤ) × (o ≡ Some z) × (holds z ≡ true)) × (r ≡ Some c)
-  guarded_parts None r c h = absurd (false≢true cc)
-  guarded_parts (Some z) r c h = go (holds z) refl h
-    where
-      go : (b : Bool) → holds z ≡ b → cond b r None ≡ Some c → ((y : ℤ) × (Some z ≡ Some y) × (holds y ≡ true)) × (r ≡ Some c)
-      go true e k = ((z, refl, e), k)
-      go false e k = absurd (false≢true cc)
+  guarded_parts o r c h = grind arith
 
   parts_guarded : (o : Option ℤ) (r : Option Game) (c : Game) (z : ℤ) → o ≡ Some z → holds z ≡ true → r ≡ Some c → then o (λ v. cond (holds v) r None) ≡ Some c
   parts_guarded o r c z e h k = rw (e, h, k)
 
   ready_state : (b : Bool) (c : Check Why) → and_then (never (not b) OtherState) c ≡ pass → (b ≡ true) × (c ≡ pass)
-  ready_state true c h = (refl, h)
-  ready_state false c h = (cc, cc)
+  ready_state b c h = grind arith
 
   ready_signal : (b : Bool) → never (not b) NoMessage ≡ pass → b ≡ true
-  ready_signal true h = refl
-  ready_signal false h = cc
+  ready_signal b h = grind arith
 
   module _ (g : Game) (p : ℕ) where
     -- a deed whose trace, carried out on what it begins with, leads to x
@@ -178,28 +165,19 @@ module _ (S : Setting) where
     done (Some x) = true
 
     ended_done : {A : Type 0} (o : Result A Why) → ended_by o ≡ pass → done (told o) ≡ true
-    ended_done (Ok x) h = refl
-    ended_done (Err w) h = cc
+    ended_done o h = grind arith
 
     done_ended : {A : Type 0} (o : Result A Why) → done (told o) ≡ true → ended_by o ≡ pass
-    done_ended (Ok x) h = refl
-    done_ended (Err w) h = cc
+    done_ended o h = grind arith
 
     abbrev False : Option ℤ → Type 0
     False o = (z : ℤ) × (o ≡ Some z) × (holds z ≡ false)
 
     tried : (b : Bool) (o : Option ℤ) (rest : Option Own) → done (cond b (then o (λ v. cond (holds v) None rest)) rest) ≡ true → (done rest ≡ true) × (b ≡ true → False o)
-    tried false o rest h = (h, λ e. absurd (false≢true e))
-    tried true None rest h = absurd (false≢true h)
-    tried true (Some z) rest h = go (holds z) refl h
-      where
-        go : (b : Bool) → holds z ≡ b → done (cond b None rest) ≡ true → (done rest ≡ true) × (true ≡ true → False (Some z))
-        go true e k = absurd (false≢true k)
-        go false e k = (k, λ _. (z, refl, e))
+    tried b o rest h = grind arith
 
     try : (b : Bool) (o : Option ℤ) (rest : Option Own) → done rest ≡ true → (b ≡ true → False o) → done (cond b (then o (λ v. cond (holds v) None rest)) rest) ≡ true
-    try false o rest h f = h
-    try true o rest h f = let (z, e, k) = f refl in rw (e, k) h
+    try b o rest h k = grind arith
 
     module _ (k : ℕ) (m : Message) where
       abbrev wanted : Placed → Bool
@@ -240,7 +218,7 @@ module _ (S : Setting) where
           f t now (eqb-true _ _ a) (eqb-true _ _ c) (eqb-true _ _ d)))
 
     same_state : (f : ℕ → ℕ) (q : ℕ) → cond (eqb p q) (f p) (f q) ≡ f q
-    same_state f q = grind (arith, nat_tests)
+    same_state f q = grind arith
 
     kept_state : state_set (dequeued g p) p (g.states p) ≡ dequeued g p
     kept_state = λ i. record { states = λ q. same_state g.states q i; numbers = g.numbers; trays = take_trays g.trays p }
@@ -283,12 +261,10 @@ module _ (S : Setting) where
 
   -- a step is an accepted move
   never_true : (b : Bool) → b ≡ true → never (not b) NoMessage ≡ pass
-  never_true true h = refl
-  never_true false h = cc
+  never_true b h = grind arith
 
   state_ready : (b : Bool) (c : Check Why) → b ≡ true → c ≡ pass → and_then (never (not b) OtherState) c ≡ pass
-  state_ready true c h e = e
-  state_ready false c h e = cc
+  state_ready b c h k = grind arith
 
   abbrev Done : Game → Deed → Game → Type 0
   Done g d h = (judge S.limit g nothing d ≡ pass) × (outcome S.place g (d ∷ []) ≡ h)

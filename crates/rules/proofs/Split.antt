@@ -55,8 +55,7 @@ unsent place s [] q h = grind arith
 unsent place s (d ∷ ds) q h = let k = unsent place (and_so s d) ds q h in grind (arith, puts_none)
 
 pub length_tail : (l : List Message) → length (tail l) ≡ length l - 1
-length_tail [] = refl
-length_tail (m ∷ l) = omega arith
+length_tail l = grind arith
 
 module _ (limit : ℕ) where
   -- whoever has moved takes no more

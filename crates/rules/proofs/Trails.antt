@@ -1,5 +1,5 @@
 -- How much a move writes and sends.
-use Rattle.std.proofs.Common.{◌≡◌, ℕ, zero, suc, ◌+◌, ◌*◌, ◌<◌, ◌≤◌, Bool, true, false, cond, ◌&&◌, eqb, leb, List, [], ◌∷◌, ◌++◌, map, length, ℤ, Some, None, Ok, Err, Option, Result, refl, arith, length-append}
+use Rattle.std.proofs.Common.{◌≡◌, ℕ, zero, suc, ◌+◌, ◌*◌, ◌<◌, ◌≤◌, Bool, true, false, cond, ◌&&◌, eqb, leb, List, [], ◌∷◌, ◌++◌, map, length, ℤ, Some, None, Option, Result, refl, arith, length-append}
 use Rattle.std.proofs.lemmas.Bool.{leb-true, and_parts}
 use Rattle.mail.specs.declared.message.Message.{Message}
 use Rattle.mail.specs.Trays.{front}
@@ -56,19 +56,16 @@ module _ (w s : ℕ) where
   weight_append (sends q m ∷ xs) ys = let h = weight_append xs ys in omega arith
 
   weight_onward : {A B : Type 0} (es : List Event) (o : Result A Why) (k : A → Trace B) (m n : ℕ) → weight w s es ≤ m → ((x : A) → weight w s (k x).events ≤ n) → weight w s (onward es o k).events ≤ m + n
-  weight_onward es (Ok x) k m n h f = let e = weight_append es (k x).events in let l = f x in omega arith
-  weight_onward es (Err f) k m n h j = omega arith
+  weight_onward es o k m n h e = grind (arith, weight_append)
 
   weight_bind : {A B : Type 0} (t : Trace A) (k : A → Trace B) (m n : ℕ) → weight w s t.events ≤ m → ((x : A) → weight w s (k x).events ≤ n) → weight w s (bind t k).events ≤ m + n
   weight_bind t k m n h f = weight_onward t.events t.out k m n h f
 
   weight_needing : {A B : Type 0} (c : Cause) (at : ℕ) (o : Option A) (k : A → Trace B) (n : ℕ) → ((x : A) → weight w s (k x).events ≤ n) → weight w s (needing c at o k).events ≤ n
-  weight_needing c at None k n h = omega arith
-  weight_needing c at (Some x) k n h = h x
+  weight_needing c at o k n h = grind arith
 
   weight_seen : (g : Game) (p a : ℕ) (o : Option ℤ) → weight w s (seen g p a o).events ≤ 0
-  weight_seen g p a (Some v) = omega arith
-  weight_seen g p a None = omega arith
+  weight_seen g p a o = grind arith
 
   -- evaluations and trials weigh nothing
   weightless : Steps (λ A t. (g : Game) → weight w s (t g).events ≤ 0)
@@ -137,16 +134,13 @@ Maybe P None = Unit {0}
 Maybe P (Some x) = P x
 
 pub maybe_cond : {A : Type 0} (P : A → Type 0) (b : Bool) (x : A) → (b ≡ true → P x) → Maybe P (cond b (Some x) None)
-maybe_cond P true x h = h refl
-maybe_cond P false x h = tt
+maybe_cond P b x h = grind arith
 
 maybe_weaker : {A : Type 0} (P Q : A → Type 0) → ((x : A) → P x → Q x) → (o : Option A) → Maybe P o → Maybe Q o
-maybe_weaker P Q f None h = tt
-maybe_weaker P Q f (Some x) h = f x h
+maybe_weaker P Q h o k = grind arith
 
 pub maybe_then : {A B : Type 0} (P : A → Type 0) (Q : B → Type 0) (o : Option A) (k : A → Option B) → Maybe P o → ((x : A) → P x → Maybe Q (k x)) → Maybe Q (then o k)
-maybe_then P Q None k h f = tt
-maybe_then P Q (Some x) k h f = f x h
+maybe_then P Q o k h e = grind arith
 
 -- what holds of each holds of the one looked up, and its place is in the list
 each_nth : {A : Type 0} (P : A → Type 0) (xs : List A) (n : ℕ) → Each P xs → Maybe P (nth xs n)
@@ -224,8 +218,7 @@ module _ (S : Setting) (sound : Sound S.level) (g : Game) where
   fit_none n m = (omega arith, omega arith)
 
   fit_cond : (b : Bool) (x y : After) → (b ≡ true → Fit x) → Fit y → Fit (cond b x y)
-  fit_cond true x y h k = h refl
-  fit_cond false x y h k = k
+  fit_cond b x y h k = grind arith
 
   fit_struck : (ms : List Move) (c : Check MoveFault) → length ms ≤ 16 → Fit (struck S g ms c)
   fit_struck ms pass h = let a = changes_fit S.level sound g ms in let b = parcels_fit S.level sound g ms in (omega arith, omega arith)

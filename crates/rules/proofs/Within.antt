@@ -14,7 +14,7 @@ use Rattle.rules.specs.Theorems.{FindRoom}
 use Rattle.rules.proofs.Points.{put, puts_in, ending, points, put_at}
 use Rattle.rules.proofs.Fine.{count, count_none, Fine}
 use Rattle.rules.proofs.Swap.{Run}
-use Rattle.rules.proofs.Split.{Frame, split, length_tail}
+use Rattle.rules.proofs.Split.{Frame, split}
 
 pub put_length : (place : List Message → Message → ℕ) (l : List Message) (m : Message) → length (put place l m) ≡ suc (length l)
 put_length place l m = rw (length-append, length-take, length-drop) (omega arith)
@@ -23,15 +23,10 @@ puts_length : (place : List Message → Message → ℕ) (es : List Event) (q : 
 puts_length place [] q l = omega arith
 puts_length place (reads p a ∷ es) q l = puts_length place es q l
 puts_length place (writes p a v ∷ es) q l = puts_length place es q l
-puts_length place (sends r m ∷ es) q l = puts_length place es q _ ∙ step (eqb r q) (put_length place l m)
-  where
-    step : (b : Bool) → length (put place l m) ≡ suc (length l) → length (cond b (put place l m) l) + count es q ≡ length l + cond b (suc (count es q)) (count es q)
-    step true e = omega arith
-    step false e = refl
+puts_length place (sends r m ∷ es) q l = let k = puts_length place es q in grind (arith, put_length)
 
 pub cond_tail : (b : Bool) (l : List Message) → length (cond b (tail l) l) ≡ length l - cond b 1 0
-cond_tail true l = length_tail l
-cond_tail false l = omega arith
+cond_tail b l = grind arith
 
 -- how many parcels go to a piece
 abbrev addressed : List Parcel → ℕ → ℕ
