@@ -162,10 +162,7 @@ module _ (L : Level) (g : Game) where
 
   with_earlier : (s : Earlier) (P : Move → Type 0) (d : Deed) → Done s P → ((d.takes ≡ true) × (s.sent d.mover ≡ true)) ⊎ Met s d.events
       → (x : Move) × P x × Clashes (deed L g x) d
-  with_earlier s P d n (inl (t, h)) = let (x, i, k) = n.sent d.mover h in (x, i, inl (inr (t, k)))
-  with_earlier s P d n (inr (inl (p, a, r, h))) = let (x, i, k) = n.wrote p a h in (x, i, inl (inl (p, a, r, k)))
-  with_earlier s P d n (inr (inr (inl (p, a, r, h)))) = let (x, i, k) = n.wrote p a h in (x, i, inr (inl (p, a, k, r)))
-  with_earlier s P d n (inr (inr (inr (q, r, h)))) = let (x, i, k) = n.sent q h in (x, i, inr (inr (q, k, r)))
+  with_earlier s P d h1 h2 = grind arith
 
   -- the move that fails, and one before it, in the list or earlier, with which it clashes
   abbrev Found : (Move → Type 0) → List Move → MoveFault → Type 0

@@ -1,16 +1,13 @@
 -- What a move does depends on its piece's state, on the message that it takes, and on the cells that it reads.
-use Rattle.std.proofs.Common.{◌≡◌, ℕ, Bool, true, false, not, eqb, List, [], ◌∷◌, ◌++◌, ℤ, Some, None, Ok, Err, Option, Result, refl, ap, ◌∙◌, arith}
+use Rattle.std.proofs.Common.{◌≡◌, ℕ, Bool, true, false, not, List, [], ◌∷◌, ◌++◌, ℤ, Some, None, Option, Result, refl, ap, ◌∙◌, arith}
 use Rattle.mail.specs.declared.message.Message.{Message}
 use Rattle.mail.specs.Trays.{front}
 use Rattle.level.specs.Syntax.{Piece, Level}
 use Rattle.level.specs.Places.{Placed, placed}
-use Rattle.level.specs.Tables.{nth}
 use Rattle.rules.specs.declared.fault.Why.{Why}
 use Rattle.rules.specs.declared.moves.Act.{Act}
-use Rattle.rules.specs.declared.moves.Act.TheVariants.{Transition, Discard}
 use Rattle.rules.specs.declared.moves.Move.{Move}
 use Rattle.rules.specs.Game.{Game}
-use Rattle.rules.specs.Names.{transition_of}
 use Rattle.rules.specs.Trace.{Event, reads, writes, sends, Trace, onward, bind, seen, unwanted}
 use Rattle.rules.specs.Deed.{transit, transit_by, discard, transit_deed, discard_deed, act_deed, deed, cell_read}
 use Rattle.rules.proofs.Steps.{Steps, of_unwanted, of_transit}
@@ -37,8 +34,7 @@ Framed t = (g h : Game) → Agree g h (t g).events → t h ≡ t g
 
 onward_framed : {A B : Type 0} (g h : Game) (es : List Event) (o : Result A Why) (k : Game → A → Trace B) → ((x : A) → Framed (λ j. k j x))
     → Agree g h (onward es o (k g)).events → onward es o (k h) ≡ onward es o (k g)
-onward_framed g h es (Ok x) k f e = ap (λ t. record { events = es ++ t.events; out = t.out }) (f x g h (λ p a r. e p a (read_right es _ p a r)))
-onward_framed g h es (Err w) k f e = refl
+onward_framed g h es o k h1 h2 = grind (arith, read_right)
 
 onward_agree : {A B : Type 0} (g h : Game) (es : List Event) (o : Result A Why) (k : A → Trace B) → Agree g h (onward es o k).events → Agree g h es
 onward_agree g h es o k e = grind (arith, read_left)
@@ -76,8 +72,7 @@ module _ (L : Level) (p : ℕ) where
   transit_frame : (g h : Game) (o : Option Placed) → h.states p ≡ g.states p
       → ((transit_deed L g p o).takes ≡ true → front (h.trays p) ≡ front (g.trays p))
       → Agree g h (transit_deed L g p o).events → transit_deed L h p o ≡ transit_deed L g p o
-  transit_frame g h None e f k = refl
-  transit_frame g h (Some t) e f k = transit_same g h t (eqb t.transition.signal 0) e f k
+  transit_frame g h o h1 h2 h3 = grind (arith, transit_same)
 
   discard_same : (g h : Game) (k : ℕ) (m : Option Message) → h.states p ≡ g.states p
       → Agree g h (discard L g p k m).events → discard L h p k m ≡ discard L g p k m
@@ -87,8 +82,7 @@ module _ (L : Level) (p : ℕ) where
   discard_frame : (g h : Game) (o : Option Piece) → h.states p ≡ g.states p
       → ((discard_deed L g p o).takes ≡ true → front (h.trays p) ≡ front (g.trays p))
       → Agree g h (discard_deed L g p o).events → discard_deed L h p o ≡ discard_deed L g p o
-  discard_frame g h None e f a = refl
-  discard_frame g h (Some x) e f a = rw (f refl, discard_same g h x.kind (front (g.trays p)) e a, e)
+  discard_frame g h o h1 h2 h3 = grind (arith, discard_same)
 
 transit_mover : (L : Level) (g : Game) (p : ℕ) (o : Option Placed) → (transit_deed L g p o).mover ≡ p
 transit_mover L g p o = grind arith
@@ -100,16 +94,10 @@ frame_act : (L : Level) (g h : Game) (p : ℕ) (m : Act) → h.states (act_deed 
     → ((act_deed L g p m).takes ≡ true → front (h.trays (act_deed L g p m).mover) ≡ front (g.trays (act_deed L g p m).mover))
     → Agree g h (act_deed L g p m).events
     → act_deed L h p m ≡ act_deed L g p m
-frame_act L g h p (Transition n) e f k =
-    let j = transit_mover L g p (transition_of L p n) in
-    transit_frame L p g h (transition_of L p n) (rw j at e) (λ t. rw j at (f t)) k
-frame_act L g h p Discard e f k =
-    let j = discard_mover L g p (nth L.pieces p) in
-    discard_frame L p g h (nth L.pieces p) (rw j at e) (λ t. rw j at (f t)) k
+frame_act L g h p m h1 h2 h3 = grind (arith, transit_mover, discard_mover, transit_frame, discard_frame)
 
 act_mover : (L : Level) (g : Game) (p : ℕ) (m : Act) → (act_deed L g p m).mover ≡ p
-act_mover L g p (Transition n) = transit_mover L g p (transition_of L p n)
-act_mover L g p Discard = discard_mover L g p (nth L.pieces p)
+act_mover L g p m = grind (arith, transit_mover, discard_mover)
 
 -- a deed's mover is the piece of its move
 pub mover : (L : Level) (g : Game) (m : Move) → (deed L g m).mover ≡ m.piece

@@ -1,6 +1,5 @@
 -- In a sound level a move writes only cells in the table, and sends only to pieces in it.
-use Rattle.std.proofs.Common.{◌≡◌, ℕ, ◌+◌, ◌<◌, ◌≤◌, Bool, true, false, cond, eqb, ltb, List, [], ◌∷◌, ◌++◌, map, length, ℤ, Some, None, Ok, Err, Option, Result, arith}
-use Rattle.std.proofs.lemmas.Bool.{false≢true}
+use Rattle.std.proofs.Common.{◌≡◌, ℕ, ◌+◌, ◌<◌, ◌≤◌, Bool, true, false, cond, eqb, List, [], ◌∷◌, ◌++◌, map, length, ℤ, Some, None, Option, Result, arith}
 use Rattle.mail.specs.declared.message.Message.{Message}
 use Rattle.mail.specs.Trays.{front}
 use Rattle.level.specs.Syntax.{Expr, Stmt, assign, store, send, Transition, Piece, Level}
@@ -17,12 +16,12 @@ use Rattle.rules.specs.declared.moves.Act.TheVariants as act
 use Rattle.rules.specs.declared.moves.Move.{Move}
 use Rattle.rules.specs.Arithmetic.{holds}
 use Rattle.rules.specs.Game.{Game}
-use Rattle.rules.specs.Names.{piece_named, numbers_in, cell_named, transition_of}
+use Rattle.rules.specs.Names.{piece_named, cell_named, transition_of}
 use Rattle.rules.specs.Trace.{Event, reads, writes, sends, Trace, halt, onward, bind, needing, Own, no_writes, receipts, receive, evaluate, evaluate_all, run, run_all, guarded}
 use Rattle.rules.specs.Checks.{pass}
 use Rattle.rules.specs.Deed.{transit, discard, transit_deed, discard_deed, act_deed, deed}
 use Rattle.rules.specs.Beat.{changes_of, parcels_of, changes, parcels}
-use Rattle.rules.proofs.Trails.{weight, weight_evaluate, weight_evaluate_all, weight_discard, each_append, Maybe, maybe_cond, maybe_then, nth_in, transition_has}
+use Rattle.rules.proofs.Trails.{weight, weight_evaluate, weight_evaluate_all, weight_discard, each_append, Maybe, nth_in, transition_has}
 
 -- every write is of a cell in the table, every send to a piece in it
 abbrev pub Ranged : List Event → Type 0
@@ -45,15 +44,13 @@ ranged_append (writes p a v ∷ xs) ys h k = (h.0, h.1, ranged_append xs ys h.2 
 ranged_append (sends q m ∷ xs) ys h k = (h.0, ranged_append xs ys h.1 k)
 
 ranged_onward : {A B : Type 0} (es : List Event) (o : Result A Why) (k : A → Trace B) → Ranged es → ((x : A) → Ranged (k x).events) → Ranged (onward es o k).events
-ranged_onward es (Ok x) k h f = ranged_append es (k x).events h (f x)
-ranged_onward es (Err w) k h f = h
+ranged_onward es o k h1 h2 = grind (arith, ranged_append)
 
 ranged_bind : {A B : Type 0} (t : Trace A) (k : A → Trace B) → Ranged t.events → ((x : A) → Ranged (k x).events) → Ranged (bind t k).events
 ranged_bind t k h f = ranged_onward t.events t.out k h f
 
 ranged_needing : {A B : Type 0} (P : A → Type 0) (c : Cause) (at : ℕ) (o : Option A) (k : A → Trace B) → Maybe P o → ((x : A) → P x → Ranged (k x).events) → Ranged (needing c at o k).events
-ranged_needing P c at None k h f = tt
-ranged_needing P c at (Some x) k h f = f x h
+ranged_needing P c at o k h1 h2 = grind arith
 
 -- the number that a statement writes
 abbrev Narrow : Stmt → Type 0
@@ -80,7 +77,7 @@ module _ (L : Level) (few : length L.pieces ≤ 32) where
   piece_in v = grind arith
 
   cell_in : (v : ℤ) (a : ℕ) → Maybe (λ q. q < 32) (cell_named L v a)
-  cell_in v a = maybe_then (λ q. q < 32) _ (piece_named L v) _ (piece_in v) (λ q h. maybe_cond _ (ltb a (numbers_in L (nth L.pieces q))) q (λ e. h))
+  cell_in v a = grind (arith, piece_in)
 
   module _ (g : Game) (p : ℕ) (here : p < 32) where
     ranged_evaluate : {B : Type 0} (o : Own) (at : ℕ) (e : Expr) (k : ℤ → Trace B) → ((v : ℤ) → Ranged (k v).events) → Ranged (bind (evaluate L g p o at e) k).events
@@ -104,9 +101,7 @@ module _ (L : Level) (few : length L.pieces ≤ 32) where
         go false = tt
 
     ranged_receive : (l : List ℕ) (m : Message) (o : Own) → Each (λ a. a < 8) l → Ranged (receive p (receipts l m) o).events
-    ranged_receive [] m o h = tt
-    ranged_receive (a ∷ []) m o h = (here, h.0, tt)
-    ranged_receive (a ∷ b ∷ l) m o h = (here, h.0, (here, h.1.0, tt))
+    ranged_receive l m o h1 = grind arith
 
     ranged_transit : (t : Placed) (b : Bool) (m : Option Message) → Narrows t → Ranged (transit L g p t b m).events
     ranged_transit t true m n = ranged_guarded t no_writes n
@@ -157,12 +152,10 @@ module _ (L : Level) (sound : Sound L) (g : Game) where
 
   -- a move that is known is of a piece in the table
   known_transit : (p : ℕ) (o : Option Placed) → Maybe (λ t. Narrows t × (p < length L.pieces)) o → (transit_deed L g p o).known ≡ pass → p < 32
-  known_transit p None h e = absurd (false≢true cc)
-  known_transit p (Some t) h e = let f = few_pieces L sound in let i = h.1 in omega arith
+  known_transit p o h1 h2 = let f = few_pieces L sound in grind arith
 
   known_discard : (p : ℕ) (o : Option Piece) → Maybe (λ x. p < length L.pieces) o → (discard_deed L g p o).known ≡ pass → p < 32
-  known_discard p None h e = absurd (false≢true cc)
-  known_discard p (Some x) h e = let f = few_pieces L sound in omega arith
+  known_discard p o h1 h2 = let f = few_pieces L sound in grind arith
 
   known_act : (p : ℕ) (a : Act) → (act_deed L g p a).known ≡ pass → p < 32
   known_act p (act.Transition n) e = known_transit p (transition_of L p n) (transition_has L Narrows (narrows L.signals) sound p n) e

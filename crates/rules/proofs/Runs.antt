@@ -1,6 +1,6 @@
 -- Whole runs: an altered list of calls ends as the old one.
-use Rattle.std.proofs.Common.{◌≡◌, ℕ, suc, ◌≤◌, Bool, true, false, cond, ◌&&◌, eqb, leb, List, [], ◌∷◌, ◌++◌, map, length, Some, None, Option, sym, refl, ap, ◌∙◌, subst, ⊎_elim, arith, length-append}
-use Rattle.std.proofs.lemmas.Bool.{leb-true, le-leb, eqb-false, and_parts, and_from, cases_Bool, cond-true, cond-false}
+use Rattle.std.proofs.Common.{◌≡◌, ℕ, suc, ◌≤◌, Bool, true, false, cond, ◌&&◌, eqb, leb, List, [], ◌∷◌, ◌++◌, map, length, Some, None, Option, sym, refl, ap, ◌∙◌, subst, arith, length-append}
+use Rattle.std.proofs.lemmas.Bool.{le-leb, and_from, cond-true}
 use Rattle.mail.specs.declared.message.Message.{Message}
 use Rattle.rules.specs.declared.fault.CallFault.{CallFault}
 use Rattle.rules.specs.declared.fault.MoveFault.{MoveFault}
@@ -16,7 +16,6 @@ use Rattle.rules.specs.Beat.{Earlier, nothing, and_so, judge, in_turn, judge_all
 use Rattle.rules.specs.Calls.{Lent, full, Call, tap, fire, strike, accepted, After, refuse, move_of, moves_of, yield, tap_check, tapped, struck, beat, listed, lent, call}
 use Rattle.rules.specs.Order.{Insert, here, there, Reordered, none, first}
 use Rattle.rules.specs.Runs.{KeepsOrder, Part, strikes, joined, play, Altered, end, keep, recut, leave, AddUp, done, next, AnswersAgree, EndAlike}
-use Rattle.rules.proofs.Points.{put}
 use Rattle.rules.proofs.Fine.{clear, fine, judged}
 use Rattle.rules.proofs.Swap.{Run, reorder, alike_outcome}
 use Rattle.rules.proofs.Split.{split}
@@ -86,12 +85,7 @@ module _ (S : Setting) where
   struck_accepted g ms c n h = grind arith
 
   accepted_listed : (g : Game) (t : Lent) (ms : List Move) (n : ℕ) → (lent S g t (listed S g (Some ms))).answer ≡ accepted n → Accepted g t ms n
-  accepted_listed g t ms n h =
-      let (a, b) = cond_accepted (full t) (listed S g (Some ms)) (Strike ShortTrail) g n h in
-      let (c, d) = cond_accepted (leb 1 (length ms) && leb (length ms) 16) (beat S g ms) (Strike NotMoves) g n b in
-      let (e, f) = and_parts (leb 1 (length ms)) _ c in
-      let (x, y) = struck_accepted g ms (judge_all S.limit g S.level nothing 0 ms) n d in
-      record { long = a; some = leb-true 1 _ e; few = leb-true _ 16 f; passed = x; answer = y }
+  accepted_listed g t ms n h1 = grind arith
 
   accepted_strike : (g : Game) (t : Lent) (bytes : List ℕ) (ms : List Move) (n : ℕ)
       → moves_of bytes ≡ Some ms → (call S g (strike t bytes)).answer ≡ accepted n → Accepted g t ms n
@@ -143,19 +137,13 @@ module _ (S : Setting) where
   within_struck g ms (fail f) w e = w
 
   tap_room : (g : Game) (p : ℕ) (m : Message) → tap_check S g p m ≡ pass → eqb (length (g.trays p)) S.limit ≡ false
-  tap_room g p m h = grind arith
+  tap_room g p m h1 = grind arith
 
   within_put : (g : Game) (p : ℕ) (m : Message) → Within S.limit g → eqb (length (g.trays p)) S.limit ≡ false → (q : ℕ) → length (put_in S.place g.trays p m q) ≤ S.limit
-  within_put g p m w e q =
-      let n : length (g.trays p) ≡ S.limit → ⊥ = eqb-false _ _ e in
-      let k = w p in let l = put_length S.place (g.trays p) m in ⊎_elim
-      (λ t. rw (cond-true (eqb q p) (put S.place (g.trays p) m) (g.trays q) t) (omega arith))
-      (λ t. rw (cond-false (eqb q p) (put S.place (g.trays p) m) (g.trays q) t) (w q))
-      (cases_Bool (eqb q p))
+  within_put g p m h1 h2 q = grind (arith, put_length)
 
   within_tapped : (g : Game) (p : ℕ) (m : Message) (c : Check TapFault) → Within S.limit g → tap_check S g p m ≡ c → Within S.limit (tapped S g (yield S g p m) c).game
-  within_tapped g p m pass w e = within_put g p m w (tap_room g p m e)
-  within_tapped g p m (fail f) w e = w
+  within_tapped g p m c h1 h2 = let k = within_put g p m in grind arith
 
   within_listed : (g : Game) (o : Option (List Move)) → Within S.limit g → Within S.limit (listed S g o).game
   within_listed g None w = w

@@ -1,5 +1,5 @@
 -- Fire accepts exactly the moves that the published semantics enables, and ends where it says.
-use Rattle.std.proofs.Common.{◌≡◌, ℕ, suc, ◌+◌, Bool, true, false, cond, not, eqb, List, [], ◌∷◌, length, ℤ, Some, None, Option, Result, sym, refl, ap, ◌∙◌, subst, arith}
+use Rattle.std.proofs.Common.{◌≡◌, ℕ, ◌+◌, Bool, true, false, cond, not, eqb, List, [], ◌∷◌, length, ℤ, Some, None, Option, Result, sym, refl, ap, ◌∙◌, subst, arith}
 use Rattle.std.proofs.lemmas.Bool.{false≢true, eqb-true, eqb-false, eq-eqb, ne_eqb, and_parts, and_from, cond-true}
 use Rattle.std.proofs.lemmas.List.{append-nil}
 use Rattle.mail.specs.declared.message.Message.{Message}
@@ -23,7 +23,7 @@ use Rattle.rules.specs.Calls.{full, fire, move_of, beat, struck, call}
 use Rattle.rules.specs.Order.{Among, now, past}
 use Rattle.rules.specs.Single.{number_set, state_set, dequeued, received, value, execute_all, Fails, Step, spontaneous, triggered, consumed}
 use Rattle.rules.specs.Theorems.{FireIsAStep}
-use Rattle.rules.proofs.Points.{put, put_at}
+use Rattle.rules.proofs.Points.{put_at}
 use Rattle.rules.proofs.Within.{put_length}
 use Rattle.rules.proofs.Configurations.{told, told_bind, lay_filled, replay, replay_only, told_evaluate, through_guarded, through_receive}
 use Rattle.rules.proofs.Trails.{weight_unwanted}
@@ -41,11 +41,7 @@ module _ (S : Setting) where
 
     sized_put : (c : Game) (n : ℕ → ℕ) (q : ℕ) (m : Message) → Sized c n
         → Sized (record { states = c.states; numbers = c.numbers; trays = put_in S.place c.trays q m }) (one_more n q)
-    sized_put c n q m h r = ap length (put_at S.place c.trays q r m) ∙ go (eqb q r)
-      where
-        go : (b : Bool) → length (cond b (put S.place (c.trays r) m) (c.trays r)) ≡ left_in g r (takes_from d r) + cond b (suc (n r)) (n r)
-        go true = let k = put_length S.place (c.trays r) m in let l = h r in omega arith
-        go false = h r
+    sized_put c n q m h1 = grind (arith, put_at, put_length)
 
     pass_replay : (n : ℕ → ℕ) (es : List Event) (c : Game) → Sized c n → along S.limit g nothing d n es ≡ pass → (replay S c es ≡ Some (ran c es)) × (d.ended ≡ pass)
     pass_replay n [] c z h = (refl, h)
@@ -85,7 +81,7 @@ module _ (S : Setting) where
     sized_begun q = grind arith
 
     outcome_ran : outcome S.place g (d ∷ []) ≡ state_set (ran begun d.events) d.mover d.target
-    outcome_ran = rw (append-nil (changes_of d.events), append-nil (parcels_of d.events))
+    outcome_ran = grind (arith, append-nil)
 
     judge_parts : judge S.limit g nothing d ≡ pass → (d.known ≡ pass) × (d.ready ≡ pass) × (along S.limit g nothing d (λ q. 0) d.events ≡ pass)
     judge_parts h = grind arith

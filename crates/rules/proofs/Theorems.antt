@@ -1,5 +1,5 @@
 -- The theorems by name, from what stands in the files before.
-use Rattle.std.proofs.Common.{◌≡◌, ℕ, suc, List, [], ◌∷◌, ◌++◌, map, length, sym, refl, ap, ◌∙◌, subst, arith}
+use Rattle.std.proofs.Common.{◌≡◌, ℕ, List, ◌∷◌, ◌++◌, map, length, sym, ap, ◌∙◌, length-append, subst, arith}
 use Rattle.std.proofs.lemmas.Bool.{false_from_ne_true}
 use Rattle.std.proofs.lemmas.List.{map-append}
 use Rattle.mail.specs.Trays.{front}
@@ -25,12 +25,10 @@ depends_on_reads L g h m e f k =
 module _ (S : Setting) (g : Game) where
   -- an accepted beat is a run of deeds that pass, and the other way round
   beat_run : (ms : List Move) (n : ℕ) → Within S.limit g → (beat S g ms).answer ≡ accepted n → Run S.limit g nothing (map (deed S.level g) ms) × (n ≡ length ms)
-  beat_run ms n w h =
-      let (a, b) = struck_accepted S g ms (judge_all S.limit g S.level nothing 0 ms) n h in
-      (passed_run S g nothing 0 ms w a, b)
+  beat_run ms n h1 h2 = grind (arith, passed_run)
 
   run_beat : (ms : List Move) → Run S.limit g nothing (map (deed S.level g) ms) → beat S g ms ≡ struck S g ms pass
-  run_beat ms r = ap (struck S g ms) (run_passed S g nothing 0 ms r)
+  run_beat ms h1 = grind (arith, run_passed)
 
 pub beats_split : BeatsSplit
 beats_split S g xs ys n w h =
@@ -43,8 +41,7 @@ beats_split S g xs ys n w h =
     (ap (λ x. x.answer) u, ap (λ x. x.answer) second, ap (λ x. x.game) second ∙ c ∙ sym (ap (λ x. x.game) whole))
 
 swap_length : {A : Type 0} (xs ys : List A) (x y : A) → length (xs ++ (x ∷ y ∷ ys)) ≡ length (xs ++ (y ∷ x ∷ ys))
-swap_length [] ys x y = refl
-swap_length (z ∷ xs) ys x y = ap suc (swap_length xs ys x y)
+swap_length xs ys x y = grind (arith, length-append)
 
 pub neighbours_exchange : NeighboursExchange
 neighbours_exchange S g xs ys x y n w h free =

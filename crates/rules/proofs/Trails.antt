@@ -22,7 +22,7 @@ use Rattle.rules.specs.Arithmetic.{holds}
 use Rattle.rules.specs.Game.{Game, Setting}
 use Rattle.rules.specs.Names.{then, piece_named, cell_named, transition_of}
 use Rattle.rules.specs.Trace.{Event, reads, writes, sends, Trace, halt, onward, bind, needing, Own, no_writes, seen, receipts, receive, evaluate, evaluate_all, run, run_all, guarded, unwanted}
-use Rattle.rules.specs.Checks.{Check, pass, fail}
+use Rattle.rules.specs.Checks.{Check}
 use Rattle.rules.specs.Deed.{transit, discard, transit_deed, discard_deed, act_deed, deed}
 use Rattle.rules.specs.Beat.{nothing, judge_all, changes_of, parcels_of, changes, parcels}
 use Rattle.rules.specs.Calls.{full, Call, tap, fire, strike, After, move_of, moves_of, yield, tap_check, tapped, struck, beat, listed, call}
@@ -107,9 +107,7 @@ module _ (w s : ℕ) where
           go false = omega arith
 
       weight_receive : (l : List ℕ) (m : Message) (o : Own) → weight w s (receive p (receipts l m) o).events ≤ w * 2
-      weight_receive [] m o = omega arith
-      weight_receive (a ∷ []) m o = omega arith
-      weight_receive (a ∷ b ∷ l) m o = omega arith
+      weight_receive l m o = grind arith
 
       pub weight_transit : (t : Placed) (b : Bool) (m : Option Message) → weight w s (transit L g p t b m).events ≤ w * 2 + length t.transition.effect
       weight_transit t true m = let h = weight_guarded t no_writes in omega arith
@@ -134,7 +132,7 @@ Maybe P None = Unit {0}
 Maybe P (Some x) = P x
 
 pub maybe_cond : {A : Type 0} (P : A → Type 0) (b : Bool) (x : A) → (b ≡ true → P x) → Maybe P (cond b (Some x) None)
-maybe_cond P b x h = grind arith
+maybe_cond P b x h1 = grind arith
 
 maybe_weaker : {A : Type 0} (P Q : A → Type 0) → ((x : A) → P x → Q x) → (o : Option A) → Maybe P o → Maybe Q o
 maybe_weaker P Q h o k = grind arith
@@ -221,8 +219,7 @@ module _ (S : Setting) (sound : Sound S.level) (g : Game) where
   fit_cond b x y h k = grind arith
 
   fit_struck : (ms : List Move) (c : Check MoveFault) → length ms ≤ 16 → Fit (struck S g ms c)
-  fit_struck ms pass h = let a = changes_fit S.level sound g ms in let b = parcels_fit S.level sound g ms in (omega arith, omega arith)
-  fit_struck ms (fail f) h = fit_none 160 128
+  fit_struck ms c h1 = grind (arith, changes_fit, parcels_fit)
 
   fit_listed : (o : Option (List Move)) → Fit (listed S g o)
   fit_listed None = fit_none 160 128
@@ -230,8 +227,7 @@ module _ (S : Setting) (sound : Sound S.level) (g : Game) where
       (λ h. fit_struck ms (judge_all S.limit g S.level nothing 0 ms) (leb-true _ 16 (and_parts (leb 1 (length ms)) _ h).1)) (fit_none 160 128)
 
   fit_tapped : (ps : List Parcel) (c : Check TapFault) → Fit (tapped S g ps c)
-  fit_tapped ps pass = fit_none 160 128
-  fit_tapped ps (fail f) = fit_none 160 128
+  fit_tapped ps c = grind arith
 
   fit_call : (c : Call) → Fit (call S g c)
   fit_call (tap p m) = fit_tapped (yield S g p m) (tap_check S g p m)

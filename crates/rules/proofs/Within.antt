@@ -1,5 +1,5 @@
 -- An accepted beat leaves no tray over the limit.
-use Rattle.std.proofs.Common.{◌≡◌, ℕ, suc, ◌+◌, ◌-◌, ◌≤◌, Bool, true, false, cond, eqb, List, [], ◌∷◌, map, length, sym, refl, ap, ◌∙◌, subst, ⊎_elim, arith, length-append, length-drop, length-take}
+use Rattle.std.proofs.Common.{◌≡◌, ℕ, suc, ◌+◌, ◌-◌, ◌≤◌, Bool, cond, eqb, List, [], ◌∷◌, map, length, sym, refl, ◌∙◌, subst, ⊎_elim, arith, length-append, length-drop, length-take}
 use mathlib.Core.List.{tail}
 use Rattle.std.proofs.lemmas.Bool.{cases_Bool, cond-true, eq-eqb}
 use Rattle.mail.specs.declared.message.Message.{Message}
@@ -35,11 +35,7 @@ addressed (c ∷ cs) q = cond (eqb c.piece q) (suc (addressed cs q)) (addressed 
 
 module _ (S : Setting) where
   put_step : (t : Trays) (p q n : ℕ) (m : Message) → length (put_in S.place t p m q) + n ≡ length (t q) + cond (eqb p q) (suc n) n
-  put_step t p q n m = ap (λ l. length l + n) (put_at S.place t p q m) ∙ go (eqb p q)
-    where
-      go : (b : Bool) → length (cond b (put S.place (t q) m) (t q)) + n ≡ length (t q) + cond b (suc n) n
-      go true = let k = put_length S.place (t q) m in omega arith
-      go false = refl
+  put_step t p q n m = grind (arith, put_at, put_length)
 
   delivered_length : (t : Trays) (ps : List Parcel) (q : ℕ) → length (delivered S.place t ps q) ≡ length (t q) + addressed ps q
   delivered_length t [] q = omega arith
