@@ -1,5 +1,5 @@
 -- A move is refused for a clash only where it clashes with an earlier one.
-use Rattle.std.proofs.Common.{◌≡◌, ℕ, suc, ◌+◌, Bool, true, not, ◌&&◌, ◌||◌, eqb, ◌⊎◌, List, [], ◌∷◌, ℤ, Some, None, Err, Option, Result, sym, refl, ap, ◌∙◌, subst, inl, inr, ⊎_elim, arith}
+use Rattle.std.proofs.Common.{◌≡◌, ℕ, suc, ◌+◌, Bool, true, ◌&&◌, ◌||◌, eqb, ◌⊎◌, List, [], ◌∷◌, ℤ, Some, None, Err, Option, Result, sym, refl, ap, ◌∙◌, subst, inl, inr, ⊎_elim, arith}
 use Rattle.std.proofs.lemmas.Bool.{false≢true, or_cases, or_left, or_right, and_parts, eq-eqb}
 use Rattle.std.proofs.lemmas.Bool.Decides.{nat_tests}
 use Rattle.mail.specs.declared.message.Message.{Message}
@@ -11,15 +11,15 @@ use Rattle.rules.specs.declared.fault.CallFault.TheVariants.{Strike}
 use Rattle.rules.specs.declared.fault.StrikeFault.TheVariants.{AtMove}
 use Rattle.rules.specs.declared.fault.MoveFault.{MoveFault}
 use Rattle.rules.specs.declared.fault.Why.{Why}
-use Rattle.rules.specs.declared.fault.Why.TheVariants.{MovesAlready, OtherState, Clash, TrayFull}
+use Rattle.rules.specs.declared.fault.Why.TheVariants.{MovesAlready, Clash, TrayFull}
 use Rattle.rules.specs.declared.moves.Act.{Act}
 use Rattle.rules.specs.declared.moves.Act.TheVariants.{Transition, Discard}
 use Rattle.rules.specs.declared.moves.Move.{Move}
 use Rattle.rules.specs.Game.{Game, same, Setting}
 use Rattle.rules.specs.Names.{transition_of}
-use Rattle.rules.specs.Trace.{Event, reads, writes, sends, Trace, onward, seen}
+use Rattle.rules.specs.Trace.{Event, reads, writes, sends, Trace}
 use Rattle.rules.specs.Checks.{Check, pass, fail, and_then, never, ended_by}
-use Rattle.rules.specs.Deed.{Deed, bears, waits, transit, discard, transit_deed, discard_deed, act_deed, deed, cell_read, cell_written, sent_to, takes_from}
+use Rattle.rules.specs.Deed.{Deed, transit, discard, transit_deed, discard_deed, act_deed, deed, cell_read, cell_written, sent_to, takes_from}
 use Rattle.rules.specs.Beat.{Clashes, Earlier, nothing, and_so, one_more, left_in, along, judge, in_turn, judge_all}
 use Rattle.rules.specs.Calls.{refused, struck}
 use Rattle.rules.specs.Order.{Among, now, past, Stands, leads, later}
@@ -30,19 +30,13 @@ use Rattle.rules.proofs.Steps.{Steps, of_unwanted, of_transit}
 abbrev Calm : {A : Type 0} → Trace A → Type 0
 Calm t = t.out ≡ Err Clash → ⊥
 
-calm_onward : {A B : Type 0} (es : List Event) (o : Result A Why) (k : A → Trace B) → (o ≡ Err Clash → ⊥) → ((x : A) → Calm (k x)) → Calm (onward es o k)
-calm_onward es o k h e = grind arith
-
-calm_seen : (g : Game) (p a : ℕ) (o : Option ℤ) → Calm (seen g p a o)
-calm_seen g p a o = grind arith
-
 calm_steps : Steps (λ A t. (g : Game) → Calm (t g))
 calm_steps = record {
   gives = λ x g e. absurd (false≢true cc);
   stumbles = λ s g e. absurd (false≢true cc);
   stops = λ g e. absurd (false≢true cc);
-  looks = λ p a o g. calm_seen g p a o;
-  binds = λ t k h f g. calm_onward (t g).events (t g).out (k g) (h g) (λ x. f x g);
+  looks = λ p a o g. grind arith;
+  binds = λ t k h f g. let h = h g in grind (arith, f);
 }
 
 calm_transit : (L : Level) (g : Game) (p : ℕ) (t : Placed) (b : Bool) (m : Option Message) → Calm (transit L g p t b m)
@@ -61,22 +55,13 @@ record Quiet (d : Deed) : Type 0 where
 calm_ended : {A : Type 0} (o : Result A Why) → (o ≡ Err Clash → ⊥) → ended_by o ≡ fail Clash → ⊥
 calm_ended o h k = grind arith
 
-quiet_bears : (b : Bool) (s : ℕ) (m : Option Message) → bears b s m ≡ fail Clash → ⊥
-quiet_bears b s m h = grind arith
-
-quiet_state : (b : Bool) (c : Check Why) → (c ≡ fail Clash → ⊥) → and_then (never (not b) OtherState) c ≡ fail Clash → ⊥
-quiet_state b c h k = grind arith
-
-quiet_waits : (m : Option Message) → waits m ≡ fail Clash → ⊥
-quiet_waits m h = grind arith
-
 quiet_transit : (L : Level) (g : Game) (p : ℕ) (o : Option Placed) → Quiet (transit_deed L g p o)
 quiet_transit L g p None = record { known = λ e. absurd (false≢true cc); ready = λ e. absurd (false≢true cc); ended = λ e. absurd (false≢true cc) }
 quiet_transit L g p (Some t) =
     let b = eqb t.transition.signal 0 in
     let m = front (g.trays p) in record {
       known = λ e. absurd (false≢true cc);
-      ready = quiet_state (eqb (g.states p) t.transition.source) (bears b t.transition.signal m) (quiet_bears b t.transition.signal m);
+      ready = λ e. grind arith;
       ended = calm_ended (transit L g p t b m).out (calm_transit L g p t b m);
     }
 
@@ -85,7 +70,7 @@ quiet_discard L g p None = record { known = λ e. absurd (false≢true cc); read
 quiet_discard L g p (Some x) =
     let m = front (g.trays p) in record {
       known = λ e. absurd (false≢true cc);
-      ready = quiet_waits m;
+      ready = λ e. grind arith;
       ended = calm_ended (discard L g p x.kind m).out (calm_discard L g p x.kind m);
     }
 

@@ -25,9 +25,6 @@ then_same o j k h = grind arith
 then_then : {A B C : Type 0} (o : Option A) (j : A → Option B) (k : B → Option C) → then (then o j) k ≡ then o (λ x. then (j x) k)
 then_then o j k = grind arith
 
-told_onward : {A B : Type 0} (es : List Event) (o : Result A Why) (k : A → Trace B) → told (onward es o k).out ≡ then (told o) (λ x. told (k x).out)
-told_onward es o k = grind arith
-
 told_needing : {A B : Type 0} (c : Cause) (at : ℕ) (o : Option A) (k : A → Trace B) → told (needing c at o k).out ≡ then o (λ x. told (k x).out)
 told_needing c at o k = grind arith
 
@@ -46,9 +43,6 @@ Lay g o c = (q a : ℕ) → c.numbers q a ≡ laid (o q a) (g.numbers q a)
 
 told_seen : (g : Game) (q a : ℕ) (o : Option ℤ) → told (seen g q a o).out ≡ Some (laid o (g.numbers q a))
 told_seen g q a o = grind arith
-
-lay_over : (b : Bool) (v z w : ℤ) (o : Option ℤ) → z ≡ laid o w → cond b v z ≡ laid (cond b (Some v) o) w
-lay_over b v z w o h = grind arith
 
 lay_set : (g c : Game) (o : Own) (p a : ℕ) (v : ℤ) → Lay g o c → Lay g (over o p a v) (number_set c p a v)
 lay_set g c o p a v h1 = grind arith

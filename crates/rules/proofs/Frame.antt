@@ -1,5 +1,5 @@
 -- What a move does depends on its piece's state, on the message that it takes, and on the cells that it reads.
-use Rattle.std.proofs.Common.{◌≡◌, ℕ, Bool, true, false, not, List, [], ◌∷◌, ◌++◌, ℤ, Some, None, Option, Result, refl, ap, ◌∙◌, arith}
+use Rattle.std.proofs.Common.{◌≡◌, ℕ, Bool, true, false, not, List, [], ◌∷◌, ◌++◌, Some, None, Option, Result, refl, ap, ◌∙◌, arith}
 use Rattle.mail.specs.declared.message.Message.{Message}
 use Rattle.mail.specs.Trays.{front}
 use Rattle.level.specs.Syntax.{Piece, Level}
@@ -8,7 +8,7 @@ use Rattle.rules.specs.declared.fault.Why.{Why}
 use Rattle.rules.specs.declared.moves.Act.{Act}
 use Rattle.rules.specs.declared.moves.Move.{Move}
 use Rattle.rules.specs.Game.{Game}
-use Rattle.rules.specs.Trace.{Event, reads, writes, sends, Trace, onward, bind, seen, unwanted}
+use Rattle.rules.specs.Trace.{Event, reads, writes, sends, Trace, onward, bind, unwanted}
 use Rattle.rules.specs.Deed.{transit, transit_by, discard, transit_deed, discard_deed, act_deed, deed, cell_read}
 use Rattle.rules.proofs.Steps.{Steps, of_unwanted, of_transit}
 use Rattle.rules.proofs.Split.{Frame}
@@ -44,15 +44,12 @@ framed_bind t k f j g h e =
     let u : t h ≡ t g = f g h (onward_agree g h (t g).events (t g).out (k g) e) in
     ap (λ x. bind x (k h)) u ∙ onward_framed g h (t g).events (t g).out k j e
 
-framed_seen : (p a : ℕ) (o : Option ℤ) → Framed (λ g. seen g p a o)
-framed_seen p a o = grind arith
-
 framed_steps : Steps (λ A t. Framed t)
 framed_steps = record {
   gives = λ x g h e. refl;
   stumbles = λ s g h e. refl;
   stops = λ g h e. refl;
-  looks = framed_seen;
+  looks = λ p a o g h e. grind arith;
   binds = framed_bind;
 }
 
@@ -101,7 +98,7 @@ act_mover L g p m = grind (arith, transit_mover, discard_mover)
 
 -- a deed's mover is the piece of its move
 pub mover : (L : Level) (g : Game) (m : Move) → (deed L g m).mover ≡ m.piece
-mover L g m = act_mover L g m.piece m.act
+mover L g m = grind arith
 
 pub frame : (L : Level) → Frame (deed L)
 frame L g h m e f k = frame_act L g h m.piece m.act e f k

@@ -1,5 +1,5 @@
 -- In a sound level a move writes only cells in the table, and sends only to pieces in it.
-use Rattle.std.proofs.Common.{◌≡◌, ℕ, ◌+◌, ◌<◌, ◌≤◌, Bool, true, false, cond, eqb, List, [], ◌∷◌, ◌++◌, map, length, ℤ, Some, None, Option, Result, arith}
+use Rattle.std.proofs.Common.{◌≡◌, ℕ, ◌+◌, ◌<◌, ◌≤◌, Bool, true, false, cond, eqb, List, [], ◌∷◌, ◌++◌, map, length, ℤ, Some, None, Option, arith}
 use Rattle.mail.specs.declared.message.Message.{Message}
 use Rattle.mail.specs.Trays.{front}
 use Rattle.level.specs.Syntax.{Expr, Stmt, assign, store, send, Transition, Piece, Level}
@@ -8,7 +8,6 @@ use Rattle.level.specs.Sound.{Each, SoundStmt, SoundTransition, Sound, most_piec
 use Rattle.level.specs.Places.{Placed, effect_place, placed_at}
 use Rattle.level.specs.Tables.{nth}
 use Rattle.rules.specs.declared.fault.Cause.{Cause}
-use Rattle.rules.specs.declared.fault.Why.{Why}
 use Rattle.rules.specs.declared.fault.Why.TheVariants.{Guard}
 use Rattle.rules.specs.declared.moves.Act.{Act}
 use Rattle.rules.specs.declared.moves.Act.TheVariants.{Discard}
@@ -17,7 +16,7 @@ use Rattle.rules.specs.declared.moves.Move.{Move}
 use Rattle.rules.specs.Arithmetic.{holds}
 use Rattle.rules.specs.Game.{Game}
 use Rattle.rules.specs.Names.{piece_named, cell_named, transition_of}
-use Rattle.rules.specs.Trace.{Event, reads, writes, sends, Trace, halt, onward, bind, needing, Own, no_writes, receipts, receive, evaluate, evaluate_all, run, run_all, guarded}
+use Rattle.rules.specs.Trace.{Event, reads, writes, sends, Trace, halt, bind, needing, Own, no_writes, receipts, receive, evaluate, evaluate_all, run, run_all, guarded}
 use Rattle.rules.specs.Checks.{pass}
 use Rattle.rules.specs.Deed.{transit, discard, transit_deed, discard_deed, act_deed, deed}
 use Rattle.rules.specs.Beat.{changes_of, parcels_of, changes, parcels}
@@ -43,11 +42,8 @@ ranged_append (reads p a ∷ xs) ys h k = ranged_append xs ys h k
 ranged_append (writes p a v ∷ xs) ys h k = (h.0, h.1, ranged_append xs ys h.2 k)
 ranged_append (sends q m ∷ xs) ys h k = (h.0, ranged_append xs ys h.1 k)
 
-ranged_onward : {A B : Type 0} (es : List Event) (o : Result A Why) (k : A → Trace B) → Ranged es → ((x : A) → Ranged (k x).events) → Ranged (onward es o k).events
-ranged_onward es o k h1 h2 = grind (arith, ranged_append)
-
 ranged_bind : {A B : Type 0} (t : Trace A) (k : A → Trace B) → Ranged t.events → ((x : A) → Ranged (k x).events) → Ranged (bind t k).events
-ranged_bind t k h f = ranged_onward t.events t.out k h f
+ranged_bind t k h f = grind (arith, ranged_append)
 
 ranged_needing : {A B : Type 0} (P : A → Type 0) (c : Cause) (at : ℕ) (o : Option A) (k : A → Trace B) → Maybe P o → ((x : A) → P x → Ranged (k x).events) → Ranged (needing c at o k).events
 ranged_needing P c at o k h1 h2 = grind arith

@@ -136,9 +136,6 @@ module _ (S : Setting) where
   within_struck g ms pass w e = within_run S.limit S.place (deed S.level) (frame S.level) g ms w (passed_run g nothing 0 ms w e)
   within_struck g ms (fail f) w e = w
 
-  tap_room : (g : Game) (p : ℕ) (m : Message) → tap_check S g p m ≡ pass → eqb (length (g.trays p)) S.limit ≡ false
-  tap_room g p m h1 = grind arith
-
   within_put : (g : Game) (p : ℕ) (m : Message) → Within S.limit g → eqb (length (g.trays p)) S.limit ≡ false → (q : ℕ) → length (put_in S.place g.trays p m q) ≤ S.limit
   within_put g p m h1 h2 q = grind (arith, put_length)
 

@@ -1,14 +1,15 @@
 -- Fire accepts exactly the moves that the published semantics enables, and ends where it says.
-use Rattle.std.proofs.Common.{◌≡◌, ℕ, ◌+◌, Bool, true, false, cond, not, eqb, List, [], ◌∷◌, length, ℤ, Some, None, Option, Result, sym, refl, ap, ◌∙◌, subst, arith}
+use Rattle.std.proofs.Common.{◌≡◌, ℕ, ◌+◌, Bool, true, false, cond, eqb, List, [], ◌∷◌, length, ℤ, Some, None, Option, Result, sym, refl, ap, ◌∙◌, subst, arith}
 use Rattle.std.proofs.lemmas.Bool.{false≢true, eqb-true, eqb-false, eq-eqb, ne_eqb, and_parts, and_from, cond-true}
 use Rattle.std.proofs.lemmas.List.{append-nil}
+use Rattle.std.proofs.lemmas.Bool.Decides.{nat_tests}
 use Rattle.mail.specs.declared.message.Message.{Message}
 use Rattle.mail.specs.Trays.{front, take_trays}
 use Rattle.level.specs.Syntax.{Piece}
 use Rattle.level.specs.Places.{Placed, placed}
 use Rattle.level.specs.Tables.{nth}
 use Rattle.rules.specs.declared.fault.Why.{Why}
-use Rattle.rules.specs.declared.fault.Why.TheVariants.{Guard, NoMessage, OtherState, TrayFull}
+use Rattle.rules.specs.declared.fault.Why.TheVariants.{Guard, TrayFull}
 use Rattle.rules.specs.declared.moves.Act.{Act}
 use Rattle.rules.specs.declared.moves.Act.TheVariants.{Transition, Discard}
 use Rattle.rules.specs.declared.moves.Move.{Move}
@@ -16,8 +17,8 @@ use Rattle.rules.specs.Arithmetic.{holds}
 use Rattle.rules.specs.Game.{Game, put_in, Setting}
 use Rattle.rules.specs.Names.{then, transition_of}
 use Rattle.rules.specs.Trace.{Event, reads, writes, sends, halt, bind, Own, no_writes, receipts, laid_over, evaluate, guarded, wants, unwanted}
-use Rattle.rules.specs.Checks.{Check, pass, fail, and_then, never, ended_by}
-use Rattle.rules.specs.Deed.{Deed, bears, transit, transit_by, discard_by, transit_deed, discard_deed, deed, takes_from}
+use Rattle.rules.specs.Checks.{pass, and_then, never, ended_by}
+use Rattle.rules.specs.Deed.{Deed, transit, transit_by, discard_by, transit_deed, discard_deed, deed, takes_from}
 use Rattle.rules.specs.Beat.{nothing, one_more, left_in, along, judge, judge_all, changes_of, parcels_of, changed, delivered, outcome}
 use Rattle.rules.specs.Calls.{full, fire, move_of, beat, struck, call}
 use Rattle.rules.specs.Order.{Among, now, past}
@@ -103,12 +104,6 @@ module _ (S : Setting) where
   parts_guarded : (o : Option ℤ) (r : Option Game) (c : Game) (z : ℤ) → o ≡ Some z → holds z ≡ true → r ≡ Some c → then o (λ v. cond (holds v) r None) ≡ Some c
   parts_guarded o r c z e h k = rw (e, h, k)
 
-  ready_state : (b : Bool) (c : Check Why) → and_then (never (not b) OtherState) c ≡ pass → (b ≡ true) × (c ≡ pass)
-  ready_state b c h = grind arith
-
-  ready_signal : (b : Bool) → never (not b) NoMessage ≡ pass → b ≡ true
-  ready_signal b h = grind arith
-
   module _ (g : Game) (p : ℕ) where
     -- a deed whose trace, carried out on what it begins with, leads to x
     passes : (d : Deed) (x : Game) → d.known ≡ pass → d.ready ≡ pass → replay S (begun g d) d.events ≡ Some x → d.ended ≡ pass
@@ -124,12 +119,11 @@ module _ (S : Setting) where
     spontaneous_step n t m e s h =
         let d = transit_by S.level g p t true m in
         let (k, r, a) = judge_parts g d h in
-        let (f, w) = ready_state (eqb (g.states p) t.transition.source) pass r in
         let (x, y) = pass_replay g d (λ q. 0) d.events (begun g d) (sized_begun g d) a in
         let u = parts_through (replay S g d.events) (guarded S.level g p t no_writes).out (ran g d.events) x y in
         let (z, v) = guarded_parts (value S g p t.transition.guard) (execute_all S p t.transition.effect g) (ran g d.events) (sym (through_guarded S g p t no_writes g (λ q b. refl)) ∙ u) in
         subst (Step S g (record { piece = p; act = Transition n })) (sym (outcome_ran g d))
-        (spontaneous e s (eqb-true (g.states p) t.transition.source f) z v)
+        (spontaneous e s (grind (arith, nat_tests)) z v)
 
     -- transitions triggered by a message
     triggered_step : (n : ℕ) (t : Placed) (l : List Message) → transition_of S.level p n ≡ Some t → (t.transition.signal ≡ 0 → ⊥) → g.trays p ≡ l
@@ -137,13 +131,10 @@ module _ (S : Setting) where
         → Step S g (record { piece = p; act = Transition n }) (outcome S.place g (transit_by S.level g p t false (front l) ∷ []))
     triggered_step n t [] e s i h =
         let d = transit_by S.level g p t false None in
-        let (k, r, a) = judge_parts g d h in
-        let (f, w) = ready_state (eqb (g.states p) t.transition.source) (fail NoMessage) r in
-        absurd (false≢true cc)
+        grind arith
     triggered_step n t (m ∷ l) e s i h =
         let d = transit_by S.level g p t false (Some m) in
         let (k, r, a) = judge_parts g d h in
-        let (f, w) = ready_state (eqb (g.states p) t.transition.source) (bears false t.transition.signal (Some m)) r in
         let (x, y) = pass_replay g d (λ q. 0) d.events (begun g d) (sized_begun g d) a in
         let end = ran (dequeued g p) d.events in
         let u = parts_through (replay S (dequeued g p) d.events) (transit S.level g p t false (Some m)).out end x y in
@@ -153,15 +144,12 @@ module _ (S : Setting) where
         let j = sym (through_receive S g p t.transition.receives m no_writes (dequeued g p) (guarded S.level g p t) ∙ through_guarded S g p t o c lay) ∙ u in
         let (z, v) = guarded_parts (value S c p t.transition.guard) (execute_all S p t.transition.effect c) end j in
         subst (Step S g (record { piece = p; act = Transition n })) (sym (outcome_ran g d))
-        (triggered e s (eqb-true (g.states p) t.transition.source f) i (eqb-true t.transition.signal m.signal (ready_signal _ w)) z v)
+        (triggered e s (grind (arith, nat_tests)) i (grind (arith, nat_tests)) z v)
 
     -- implicit consumption: each guard tried is false
     abbrev done : {A : Type 0} → Option A → Bool
     done None = false
     done (Some x) = true
-
-    ended_done : {A : Type 0} (o : Result A Why) → ended_by o ≡ pass → done (told o) ≡ true
-    ended_done o h = grind arith
 
     done_ended : {A : Type 0} (o : Result A Why) → done (told o) ≡ true → ended_by o ≡ pass
     done_ended o h = grind arith
@@ -230,7 +218,7 @@ module _ (S : Setting) where
         let (k, r, a) = judge_parts g d h in
         let (y, z) = pass_replay g d (λ q. 0) d.events (begun g d) (sized_begun g d) a in
         let same : dequeued g p ≡ ran (dequeued g p) d.events = let w = replay_only S (dequeued g p) d.events (weight_unwanted 1 1 S.level g p x.kind (g.states p) m (placed S.level)) in cc in
-        let f = all_false x.kind m (placed S.level) (ended_done (unwanted S.level g p x.kind (g.states p) m (placed S.level)).out z) in
+        let f = all_false x.kind m (placed S.level) (grind arith) in
         subst (Step S g (record { piece = p; act = Discard })) (sym (outcome_ran g d ∙ ap (λ c. state_set c p (g.states p)) (sym same) ∙ kept_state))
         (consumed e i f)
 
@@ -256,12 +244,6 @@ module _ (S : Setting) where
   step_of g p Discard h = discard_step g p (nth S.level.pieces p) refl h
 
   -- a step is an accepted move
-  never_true : (b : Bool) → b ≡ true → never (not b) NoMessage ≡ pass
-  never_true b h = grind arith
-
-  state_ready : (b : Bool) (c : Check Why) → b ≡ true → c ≡ pass → and_then (never (not b) OtherState) c ≡ pass
-  state_ready b c h k = grind arith
-
   abbrev Done : Game → Deed → Game → Type 0
   Done g d h = (judge S.limit g nothing d ≡ pass) × (outcome S.place g (d ∷ []) ≡ h)
 
@@ -270,10 +252,9 @@ module _ (S : Setting) where
       let d = transit_by S.level g p t true (front (g.trays p)) in
       let u = through_guarded S g p t no_writes g (λ q b. refl) ∙ parts_guarded (value S g p t.transition.guard) (execute_all S p t.transition.effect g) c z v k w in
       let (x, y) = through_parts (replay S g d.events) (guarded S.level g p t no_writes).out c u in
-      let r = state_ready (eqb (g.states p) t.transition.source) pass (eq-eqb _ _ f) refl in
       let j : transit_deed S.level g p (transition_of S.level p n) ≡ d =
       ap (transit_deed S.level g p) e ∙ ap (λ b. transit_by S.level g p t b (front (g.trays p))) (eq-eqb _ _ s) in
-      subst (λ b. Done g b (state_set c p t.transition.target)) (sym j) (passes g p d c refl r x y)
+      subst (λ b. Done g b (state_set c p t.transition.target)) (sym j) (passes g p d c refl (grind (arith, nat_tests)) x y)
   of_step {g} (triggered {p = p} {n = n} {t = t} {m = m} {l = l} {c' = c} e s f i q (z, v, k) w) =
       let d = transit_by S.level g p t false (Some m) in
       let o = laid_over p (receipts t.transition.receives m) no_writes in
@@ -282,10 +263,9 @@ module _ (S : Setting) where
       let u = through_receive S g p t.transition.receives m no_writes (dequeued g p) (guarded S.level g p t) ∙ through_guarded S g p t o b lay
       ∙ parts_guarded (value S b p t.transition.guard) (execute_all S p t.transition.effect b) c z v k w in
       let (x, y) = through_parts (replay S (dequeued g p) d.events) (transit S.level g p t false (Some m)).out c u in
-      let r = state_ready (eqb (g.states p) t.transition.source) (bears false t.transition.signal (Some m)) (eq-eqb _ _ f) (never_true _ (eq-eqb _ _ q)) in
       let j : transit_deed S.level g p (transition_of S.level p n) ≡ d =
       ap (transit_deed S.level g p) e ∙ ap (λ b. transit_by S.level g p t b (front (g.trays p))) (ne_eqb _ _ s) ∙ ap (λ l. transit_by S.level g p t false (front l)) i in
-      subst (λ b. Done g b (state_set c p t.transition.target)) (sym j) (passes g p d c refl r x y)
+      subst (λ b. Done g b (state_set c p t.transition.target)) (sym j) (passes g p d c refl (grind (arith, nat_tests)) x y)
   of_step {g} (consumed {p = p} {x = x} {m = m} {l = l} e i f) =
       let d = discard_by S.level g p x.kind (Some m) in
       let y = done_ended g p (unwanted S.level g p x.kind (g.states p) m (placed S.level)).out (false_all g p x.kind m (placed S.level) f) in

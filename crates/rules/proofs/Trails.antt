@@ -1,5 +1,5 @@
 -- How much a move writes and sends.
-use Rattle.std.proofs.Common.{◌≡◌, ℕ, zero, suc, ◌+◌, ◌*◌, ◌<◌, ◌≤◌, Bool, true, false, cond, ◌&&◌, eqb, leb, List, [], ◌∷◌, ◌++◌, map, length, ℤ, Some, None, Option, Result, refl, arith, length-append}
+use Rattle.std.proofs.Common.{◌≡◌, ℕ, zero, suc, ◌+◌, ◌*◌, ◌<◌, ◌≤◌, Bool, true, false, cond, ◌&&◌, eqb, leb, List, [], ◌∷◌, ◌++◌, map, length, Some, None, Option, refl, arith, length-append}
 use Rattle.std.proofs.lemmas.Bool.{leb-true, and_parts}
 use Rattle.mail.specs.declared.message.Message.{Message}
 use Rattle.mail.specs.Trays.{front}
@@ -10,22 +10,19 @@ use Rattle.level.specs.Places.{Placed, effect_place, placed_at, in_kind, in_kind
 use Rattle.level.specs.Tables.{nth}
 use Rattle.rules.specs.declared.fault.Cause.{Cause}
 use Rattle.rules.specs.declared.fault.MoveFault.{MoveFault}
-use Rattle.rules.specs.declared.fault.Why.{Why}
 use Rattle.rules.specs.declared.fault.Why.TheVariants.{Guard}
-use Rattle.rules.specs.declared.fault.TapFault.{TapFault}
 use Rattle.rules.specs.declared.moves.Act.{Act}
 use Rattle.rules.specs.declared.moves.Act.TheVariants.{Discard}
 use Rattle.rules.specs.declared.moves.Act.TheVariants as act
 use Rattle.rules.specs.declared.moves.Move.{Move}
-use Rattle.rules.specs.declared.trail.Parcel.{Parcel}
 use Rattle.rules.specs.Arithmetic.{holds}
 use Rattle.rules.specs.Game.{Game, Setting}
 use Rattle.rules.specs.Names.{then, piece_named, cell_named, transition_of}
-use Rattle.rules.specs.Trace.{Event, reads, writes, sends, Trace, halt, onward, bind, needing, Own, no_writes, seen, receipts, receive, evaluate, evaluate_all, run, run_all, guarded, unwanted}
+use Rattle.rules.specs.Trace.{Event, reads, writes, sends, Trace, halt, bind, needing, Own, no_writes, receipts, receive, evaluate, evaluate_all, run, run_all, guarded, unwanted}
 use Rattle.rules.specs.Checks.{Check}
 use Rattle.rules.specs.Deed.{transit, discard, transit_deed, discard_deed, act_deed, deed}
 use Rattle.rules.specs.Beat.{nothing, judge_all, changes_of, parcels_of, changes, parcels}
-use Rattle.rules.specs.Calls.{full, Call, tap, fire, strike, After, move_of, moves_of, yield, tap_check, tapped, struck, beat, listed, call}
+use Rattle.rules.specs.Calls.{full, Call, tap, fire, strike, After, move_of, moves_of, struck, beat, listed, call}
 use Rattle.rules.specs.Theorems.{TrailsSuffice}
 use Rattle.rules.proofs.Steps.{Steps, of_evaluate, of_evaluate_all, of_unwanted}
 
@@ -55,17 +52,11 @@ module _ (w s : ℕ) where
   weight_append (writes p a v ∷ xs) ys = let h = weight_append xs ys in omega arith
   weight_append (sends q m ∷ xs) ys = let h = weight_append xs ys in omega arith
 
-  weight_onward : {A B : Type 0} (es : List Event) (o : Result A Why) (k : A → Trace B) (m n : ℕ) → weight w s es ≤ m → ((x : A) → weight w s (k x).events ≤ n) → weight w s (onward es o k).events ≤ m + n
-  weight_onward es o k m n h e = grind (arith, weight_append)
-
   weight_bind : {A B : Type 0} (t : Trace A) (k : A → Trace B) (m n : ℕ) → weight w s t.events ≤ m → ((x : A) → weight w s (k x).events ≤ n) → weight w s (bind t k).events ≤ m + n
-  weight_bind t k m n h f = weight_onward t.events t.out k m n h f
+  weight_bind t k m n h f = grind (arith, weight_append)
 
   weight_needing : {A B : Type 0} (c : Cause) (at : ℕ) (o : Option A) (k : A → Trace B) (n : ℕ) → ((x : A) → weight w s (k x).events ≤ n) → weight w s (needing c at o k).events ≤ n
   weight_needing c at o k n h = grind arith
-
-  weight_seen : (g : Game) (p a : ℕ) (o : Option ℤ) → weight w s (seen g p a o).events ≤ 0
-  weight_seen g p a o = grind arith
 
   -- evaluations and trials weigh nothing
   weightless : Steps (λ A t. (g : Game) → weight w s (t g).events ≤ 0)
@@ -73,7 +64,7 @@ module _ (w s : ℕ) where
     gives = λ x g. omega arith;
     stumbles = λ f g. omega arith;
     stops = λ g. omega arith;
-    looks = λ p a o g. weight_seen g p a o;
+    looks = λ p a o g. grind arith;
     binds = λ t k h f g. weight_bind (t g) (k g) 0 0 (h g) (λ x. f x g);
   }
 
@@ -226,11 +217,8 @@ module _ (S : Setting) (sound : Sound S.level) (g : Game) where
   fit_listed (Some ms) = fit_cond (leb 1 (length ms) && leb (length ms) 16) (beat S g ms) _
       (λ h. fit_struck ms (judge_all S.limit g S.level nothing 0 ms) (leb-true _ 16 (and_parts (leb 1 (length ms)) _ h).1)) (fit_none 160 128)
 
-  fit_tapped : (ps : List Parcel) (c : Check TapFault) → Fit (tapped S g ps c)
-  fit_tapped ps c = grind arith
-
   fit_call : (c : Call) → Fit (call S g c)
-  fit_call (tap p m) = fit_tapped (yield S g p m) (tap_check S g p m)
+  fit_call (tap p m) = grind arith
   fit_call (fire t p n) = fit_cond (full t) (beat S g (move_of p n ∷ [])) _ (λ h. fit_struck (move_of p n ∷ []) (judge_all S.limit g S.level nothing 0 (move_of p n ∷ [])) (omega arith)) (fit_none 160 128)
   fit_call (strike t bs) = fit_cond (full t) (listed S g (moves_of bs)) _ (λ h. fit_listed (moves_of bs)) (fit_none 160 128)
 
