@@ -1,6 +1,6 @@
 -- A move is refused for a clash only where it clashes with an earlier one.
-use Rattle.std.proofs.Common.{◌≡◌, ℕ, suc, ◌+◌, Bool, true, ◌&&◌, ◌||◌, eqb, ◌⊎◌, List, [], ◌∷◌, ℤ, Some, None, Err, Option, Result, sym, refl, ap, ◌∙◌, subst, inl, inr, ⊎_elim, arith}
-use Rattle.std.proofs.lemmas.Bool.{false≢true, or_cases, or_left, or_right, and_parts, eq-eqb}
+use Rattle.std.proofs.Common.{◌≡◌, ℕ, suc, ◌+◌, Bool, true, ◌||◌, eqb, ◌⊎◌, List, [], ◌∷◌, ℤ, Some, None, Err, Option, Result, sym, refl, ap, ◌∙◌, subst, inl, inr, ⊎_elim, arith}
+use Rattle.std.proofs.lemmas.Bool.{false≢true, or_cases, or_left, or_right, eq-eqb}
 use Rattle.std.proofs.lemmas.Bool.Decides.{nat_tests}
 use Rattle.mail.specs.declared.message.Message.{Message}
 use Rattle.mail.specs.Trays.{front}
@@ -128,10 +128,7 @@ module _ (limit : ℕ) (g : Game) (s : Earlier) (d : Deed) (q : Quiet d) where
       (next_clash (s.sent r) _ h)
 
   met_judge : judge limit g s d ≡ fail Clash → ((d.takes ≡ true) × (s.sent d.mover ≡ true)) ⊎ Met s d.events
-  met_judge h =
-      let a = next_own d.ready _ q.ready (next_moved (s.moved d.mover) _ (next_own d.known _ q.known h)) in
-      ⊎_elim (λ e. inl (and_parts d.takes (s.sent d.mover) e)) (λ k. inr (met_along (λ r. 0) d.events k))
-      (next_clash (d.takes && s.sent d.mover) _ a)
+  met_judge h = let k = met_along (λ r. 0) d.events in grind (arith, q.known, q.ready)
 
 module _ (L : Level) (g : Game) where
   -- what is noted of earlier moves was done by one of them

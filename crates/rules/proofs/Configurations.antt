@@ -1,5 +1,5 @@
 -- A trace laid over the game before the move says what the published semantics says of the configuration written so far.
-use Rattle.std.proofs.Common.{◌≡◌, ℕ, ◌+◌, Bool, true, false, cond, eqb, ◌≤◌, List, [], ◌∷◌, ◌++◌, length, ℤ, Some, None, Ok, Err, Option, Result, sym, refl, ap, ◌∙◌, arith}
+use Rattle.std.proofs.Common.{◌≡◌, ℕ, ◌+◌, Bool, true, false, cond, ◌≤◌, List, [], ◌∷◌, ◌++◌, length, ℤ, Some, None, Ok, Err, Option, Result, sym, refl, ap, ◌∙◌, arith}
 use Rattle.std.proofs.lemmas.List.{append-nil, append_assoc}
 use Rattle.mail.specs.declared.message.Message.{Message}
 use Rattle.level.specs.Syntax.{Expr, constant, own_piece, own, other, binary, negation, Stmt, assign, store, send}
@@ -8,7 +8,7 @@ use Rattle.level.specs.Places.{Placed, effect_place}
 use Rattle.rules.specs.declared.fault.Cause.{Cause}
 use Rattle.rules.specs.declared.fault.Why.{Why}
 use Rattle.rules.specs.declared.fault.Why.TheVariants.{Guard}
-use Rattle.rules.specs.Arithmetic.{holds, computed}
+use Rattle.rules.specs.Arithmetic.{holds}
 use Rattle.rules.specs.Game.{Game, message, put_in, Setting}
 use Rattle.rules.specs.Names.{then, piece_named, cell_named}
 use Rattle.rules.specs.Trace.{Event, reads, writes, sends, Trace, halt, onward, bind, needing, Own, over, seen, post, receipts, receive, laid_over, evaluate, evaluate_all, run, run_all, guarded}
@@ -53,15 +53,7 @@ lay_filled g c o p (a ∷ []) m h = lay_set g c o p a m.first h
 lay_filled g c o p (a ∷ b ∷ l) m h = lay_set g (number_set c p a m.first) (over o p a m.first) p b m.second (lay_set g c o p a m.first h)
 
 bind_bind : {A B C : Type 0} (t : Trace A) (f : A → Trace B) (k : B → Trace C) → bind (bind t f) k ≡ bind t (λ x. bind (f x) k)
-bind_bind t f k = outer t.events t.out
-  where
-    inner : (es fs : List Event) (o : Result _ Why) → onward (es ++ fs) o k ≡ record { events = es ++ (onward fs o k).events; out = (onward fs o k).out }
-    inner es fs (Ok y) = ap (λ z. record { events = z; out = (k y).out }) (append_assoc es fs (k y).events)
-    inner es fs (Err w) = refl
-
-    outer : (es : List Event) (o : Result _ Why) → bind (onward es o f) k ≡ onward es o (λ x. bind (f x) k)
-    outer es (Ok x) = inner es (f x).events (f x).out
-    outer es (Err w) = refl
+bind_bind t f k = grind (arith, append_assoc)
 
 module _ (S : Setting) where
   -- the events, carried out on a configuration
@@ -107,10 +99,7 @@ module _ (S : Setting) where
           (λ v. told_needing _ at (cell_named S.level v a) _ ∙ then_same (cell_named S.level v a) _ _ (λ q. told_seen g q a (o q a) ∙ ap Some (sym (lay q a))))
       told_evaluate at (binary op e f) = told_bind (evaluate S.level g p o (at + 1) e) _ _ _ (told_evaluate (at + 1) e)
           (λ v. told_bind (evaluate S.level g p o (at + 1 + size e) f) _ _ _ (told_evaluate (at + 1 + size e) f)
-          (λ w. told_needing _ at (computed op v w) _ ∙ some_same (computed op v w)))
-        where
-          some_same : (x : Option ℤ) → then x (λ v. Some v) ≡ x
-          some_same x = grind arith
+          (λ w. grind arith))
       told_evaluate at (negation e) = told_bind (evaluate S.level g p o (at + 1) e) _ _ _ (told_evaluate (at + 1) e) (λ v. refl)
 
       told_all : (at : ℕ) (es : List Expr) → told (evaluate_all S.level g p o at es).out ≡ values S c p es
@@ -132,14 +121,7 @@ module _ (S : Setting) where
 
     module _ (k : Own → Trace Own) (K : Game → Option Game) (on : (o : Own) (c : Game) → Lay g o c → through c (k o) ≡ K c) where
       through_post : (c : Game) (o : Own) (q : ℕ) (m : Message) → Lay g o c → through c (bind (post o q m) k) ≡ then (sent S c q m) K
-      through_post c o q m lay = go (eqb (length (c.trays q)) S.limit)
-        where
-          c' : Game
-          c' = record { states = c.states; numbers = c.numbers; trays = put_in S.place c.trays q m }
-
-          go : (b : Bool) → then (then (cond b None (Some c')) (λ x. replay x (k o).events)) (λ x. then (told (k o).out) (λ y. Some x)) ≡ then (cond b None (Some c')) K
-          go true = refl
-          go false = on o c' lay
+      through_post c o q m lay = let k = on o (record { states = c.states; numbers = c.numbers; trays = put_in S.place c.trays q m }) lay in grind arith
 
       through_run : (at : ℕ) (s : Stmt) (c : Game) (o : Own) → Lay g o c → through c (bind (run S.level g p at s o) k) ≡ then (execute S p s c) K
       through_run at (assign a e) c o lay =

@@ -1,10 +1,10 @@
 -- Whole runs: an altered list of calls ends as the old one.
-use Rattle.std.proofs.Common.{◌≡◌, ℕ, suc, ◌≤◌, Bool, true, false, cond, ◌&&◌, eqb, leb, List, [], ◌∷◌, ◌++◌, map, length, Some, None, Option, sym, refl, ap, ◌∙◌, subst, arith, length-append}
-use Rattle.std.proofs.lemmas.Bool.{le-leb, and_from, cond-true}
+use Rattle.std.proofs.Common.{◌≡◌, ℕ, suc, ◌≤◌, Bool, true, false, cond, eqb, List, [], ◌∷◌, ◌++◌, map, length, Some, Option, sym, refl, ap, ◌∙◌, subst, arith, length-append}
+use Rattle.std.proofs.lemmas.Bool.{le-leb}
 use Rattle.mail.specs.declared.message.Message.{Message}
 use Rattle.rules.specs.declared.fault.CallFault.{CallFault}
 use Rattle.rules.specs.declared.fault.MoveFault.{MoveFault}
-use Rattle.rules.specs.declared.fault.StrikeFault.TheVariants.{ShortTrail, NotMoves}
+use Rattle.rules.specs.declared.fault.StrikeFault.TheVariants.{ShortTrail}
 use Rattle.rules.specs.declared.fault.CallFault.TheVariants.{Strike}
 use Rattle.rules.specs.declared.fault.TapFault.{TapFault}
 use Rattle.rules.specs.declared.fault.Why.{Why}
@@ -75,8 +75,7 @@ module _ (S : Setting) where
   -- what comes of moves that pass
   well : (g : Game) (t : Lent) (ms : List Move) → full t ≡ true → 1 ≤ length ms → length ms ≤ 16 → Run S.limit g nothing (map (deed S.level g) ms)
       → lent S g t (listed S g (Some ms)) ≡ struck S g ms pass
-  well g t ms l a b r =
-      cond-true _ _ _ l ∙ cond-true _ _ _ (and_from _ _ (le-leb 1 _ a) (le-leb _ 16 b)) ∙ ap (struck S g ms) (run_passed g nothing 0 ms r)
+  well g t ms h1 h2 h3 h4 = let k = run_passed g nothing 0 ms h4 in grind (arith, le-leb)
 
   pub cond_accepted : (b : Bool) (x : After) (f : CallFault) (g : Game) (n : ℕ) → (cond b x (refuse f g)).answer ≡ accepted n → (b ≡ true) × (x.answer ≡ accepted n)
   cond_accepted b x f g n h = grind arith
@@ -143,8 +142,7 @@ module _ (S : Setting) where
   within_tapped g p m c h1 h2 = let k = within_put g p m in grind arith
 
   within_listed : (g : Game) (o : Option (List Move)) → Within S.limit g → Within S.limit (listed S g o).game
-  within_listed g None w = w
-  within_listed g (Some ms) w = within_cond (leb 1 (length ms) && leb (length ms) 16) (beat S g ms) (refuse (Strike NotMoves) g) (within_struck g ms _ w refl) w
+  within_listed g o h1 = grind (arith, within_struck)
 
   pub within_call : (g : Game) (c : Call) → Within S.limit g → Within S.limit (call S g c).game
   within_call g (tap p m) w = within_tapped g p m _ w refl

@@ -9,15 +9,14 @@ use Rattle.level.specs.Syntax.{Piece}
 use Rattle.level.specs.Places.{Placed, placed}
 use Rattle.level.specs.Tables.{nth}
 use Rattle.rules.specs.declared.fault.Why.{Why}
-use Rattle.rules.specs.declared.fault.Why.TheVariants.{Guard, TrayFull}
 use Rattle.rules.specs.declared.moves.Act.{Act}
 use Rattle.rules.specs.declared.moves.Act.TheVariants.{Transition, Discard}
 use Rattle.rules.specs.declared.moves.Move.{Move}
 use Rattle.rules.specs.Arithmetic.{holds}
 use Rattle.rules.specs.Game.{Game, put_in, Setting}
 use Rattle.rules.specs.Names.{then, transition_of}
-use Rattle.rules.specs.Trace.{Event, reads, writes, sends, halt, bind, Own, no_writes, receipts, laid_over, evaluate, guarded, wants, unwanted}
-use Rattle.rules.specs.Checks.{pass, and_then, never, ended_by}
+use Rattle.rules.specs.Trace.{Event, reads, writes, sends, Own, no_writes, receipts, laid_over, guarded, wants, unwanted}
+use Rattle.rules.specs.Checks.{pass, ended_by}
 use Rattle.rules.specs.Deed.{Deed, transit, transit_by, discard_by, transit_deed, discard_deed, deed, takes_from}
 use Rattle.rules.specs.Beat.{nothing, one_more, left_in, along, judge, judge_all, changes_of, parcels_of, changed, delivered, outcome}
 use Rattle.rules.specs.Calls.{full, fire, move_of, beat, struck, call}
@@ -26,7 +25,7 @@ use Rattle.rules.specs.Single.{number_set, state_set, dequeued, received, value,
 use Rattle.rules.specs.Theorems.{FireIsAStep}
 use Rattle.rules.proofs.Points.{put_at}
 use Rattle.rules.proofs.Within.{put_length}
-use Rattle.rules.proofs.Configurations.{told, told_bind, lay_filled, replay, replay_only, told_evaluate, through_guarded, through_receive}
+use Rattle.rules.proofs.Configurations.{told, lay_filled, replay, replay_only, told_evaluate, through_guarded, through_receive}
 use Rattle.rules.proofs.Trails.{weight_unwanted}
 use Rattle.rules.proofs.Runs.{cond_accepted, struck_accepted, turn_pass, pass_turn}
 
@@ -48,31 +47,13 @@ module _ (S : Setting) where
     pass_replay n [] c z h = (refl, h)
     pass_replay n (reads p a ∷ es) c z h = pass_replay n es c z h
     pass_replay n (writes p a v ∷ es) c z h = pass_replay n es (number_set c p a v) z h
-    pass_replay n (sends q m ∷ es) c z h = go (eqb (left_in g q (takes_from d q) + n q) S.limit) refl h (pass_replay (one_more n q) es c' (sized_put c n q m z))
-      where
-        c' : Game
-        c' = record { states = c.states; numbers = c.numbers; trays = put_in S.place c.trays q m }
-
-        go : (b : Bool) → eqb (left_in g q (takes_from d q) + n q) S.limit ≡ b → and_then (never b TrayFull) (along S.limit g nothing d (one_more n q) es) ≡ pass
-            → (along S.limit g nothing d (one_more n q) es ≡ pass → (replay S c' es ≡ Some (ran c' es)) × (d.ended ≡ pass))
-            → (then (cond (eqb (length (c.trays q)) S.limit) None (Some c')) (λ x. replay S x es) ≡ Some (ran c' es)) × (d.ended ≡ pass)
-        go true e k f = (cc, cc)
-        go false e k f = rw (z q, e) (f k)
+    pass_replay n (sends q m ∷ es) c z h = let j = z q in let k = pass_replay (one_more n q) es (record { states = c.states; numbers = c.numbers; trays = put_in S.place c.trays q m }) (sized_put c n q m z) in grind arith
 
     replay_pass : (n : ℕ → ℕ) (es : List Event) (c x : Game) → Sized c n → replay S c es ≡ Some x → d.ended ≡ pass → (along S.limit g nothing d n es ≡ pass) × (x ≡ ran c es)
     replay_pass n [] c x z h e = (e, cc)
     replay_pass n (reads p a ∷ es) c x z h e = replay_pass n es c x z h e
     replay_pass n (writes p a v ∷ es) c x z h e = replay_pass n es (number_set c p a v) x z h e
-    replay_pass n (sends q m ∷ es) c x z h e = go (eqb (length (c.trays q)) S.limit) refl h (λ k. replay_pass (one_more n q) es c' x (sized_put c n q m z) k e)
-      where
-        c' : Game
-        c' = record { states = c.states; numbers = c.numbers; trays = put_in S.place c.trays q m }
-
-        go : (b : Bool) → eqb (length (c.trays q)) S.limit ≡ b → then (cond b None (Some c')) (λ y. replay S y es) ≡ Some x
-            → (replay S c' es ≡ Some x → (along S.limit g nothing d (one_more n q) es ≡ pass) × (x ≡ ran c' es))
-            → (and_then (never (eqb (left_in g q (takes_from d q) + n q) S.limit) TrayFull) (along S.limit g nothing d (one_more n q) es) ≡ pass) × (x ≡ ran c' es)
-        go true u k f = (cc, cc)
-        go false u k f = rw (← z q, u) (f k)
+    replay_pass n (sends q m ∷ es) c x z h e = let j = z q in let k = replay_pass (one_more n q) es (record { states = c.states; numbers = c.numbers; trays = put_in S.place c.trays q m }) x (sized_put c n q m z) in grind arith
 
     -- the configuration in which the move has taken what it takes
     abbrev begun : Game
@@ -169,20 +150,9 @@ module _ (S : Setting) where
 
       told_trial : (t : Placed) (ts : List Placed) → told (unwanted S.level g p k (g.states p) m (t ∷ ts)).out
           ≡ cond (wanted t) (then (value S (received g p t m) p t.transition.guard) (λ v. cond (holds v) None (told (unwanted S.level g p k (g.states p) m ts).out))) (told (unwanted S.level g p k (g.states p) m ts).out)
-      told_trial t ts = go (wanted t)
-        where
-          o : Own
-          o = laid_over p (receipts t.transition.receives m) no_writes
-
-          inner : (b : Bool) → told (cond b (halt Guard) (unwanted S.level g p k (g.states p) m ts)).out ≡ cond b None (told (unwanted S.level g p k (g.states p) m ts).out)
-          inner true = refl
-          inner false = refl
-
-          go : (b : Bool) → told (cond b (bind (evaluate S.level g p o t.guard t.transition.guard) (λ v. cond (holds v) (halt Guard) (unwanted S.level g p k (g.states p) m ts))) (unwanted S.level g p k (g.states p) m ts)).out
-              ≡ cond b (then (value S (received g p t m) p t.transition.guard) (λ v. cond (holds v) None (told (unwanted S.level g p k (g.states p) m ts).out))) (told (unwanted S.level g p k (g.states p) m ts).out)
-          go true = told_bind (evaluate S.level g p o t.guard t.transition.guard) _ _ _
-              (told_evaluate S g p (received g p t m) o (lay_filled g (dequeued g p) no_writes p t.transition.receives m (λ q b. refl)) t.guard t.transition.guard) (λ v. inner (holds v))
-          go false = refl
+      told_trial t ts =
+          let o = laid_over p (receipts t.transition.receives m) no_writes in
+          let e = told_evaluate S g p (received g p t m) o (lay_filled g (dequeued g p) no_writes p t.transition.receives m (λ q b. refl)) t.guard t.transition.guard in grind arith
 
       abbrev Refuses : Placed → Type 0
       Refuses t = t.kind ≡ k → t.transition.source ≡ g.states p → t.transition.signal ≡ m.signal → Fails S (received g p t m) p t.transition.guard

@@ -1,14 +1,14 @@
 -- An accepted beat leaves no tray over the limit.
-use Rattle.std.proofs.Common.{◌≡◌, ℕ, suc, ◌+◌, ◌-◌, ◌≤◌, Bool, cond, eqb, List, [], ◌∷◌, map, length, sym, refl, ◌∙◌, subst, ⊎_elim, arith, length-append, length-drop, length-take}
+use Rattle.std.proofs.Common.{◌≡◌, ℕ, suc, ◌+◌, ◌-◌, ◌≤◌, Bool, cond, eqb, List, [], ◌∷◌, map, length, sym, refl, ◌∙◌, subst, arith, length-append, length-drop, length-take}
 use mathlib.Core.List.{tail}
-use Rattle.std.proofs.lemmas.Bool.{cases_Bool, cond-true, eq-eqb}
+use Rattle.std.proofs.lemmas.Bool.{cond-true, eq-eqb}
 use Rattle.mail.specs.declared.message.Message.{Message}
 use Rattle.mail.specs.Trays.{Trays}
 use Rattle.rules.specs.declared.moves.Move.{Move}
 use Rattle.rules.specs.declared.trail.Parcel.{Parcel}
 use Rattle.rules.specs.Game.{Game, Within, Setting, put_in}
 use Rattle.rules.specs.Trace.{Event, reads, writes, sends}
-use Rattle.rules.specs.Deed.{Deed, sent_to, takes_from}
+use Rattle.rules.specs.Deed.{Deed, takes_from}
 use Rattle.rules.specs.Beat.{nothing, outcome, delivered}
 use Rattle.rules.specs.Theorems.{FindRoom}
 use Rattle.rules.proofs.Points.{put, puts_in, ending, points, put_at}
@@ -55,12 +55,9 @@ module _ (limit : ℕ) (place : List Message → Message → ℕ) where
   within_one : (g : Game) (d : Deed) → Within limit g → Fine limit g nothing d → Within limit (ending place g (d ∷ []))
   within_one g d h f q =
       let e = puts_length place d.events q (cond (takes_from d q) (tail (g.trays q)) (g.trays q)) in
-      let k = cond_tail (takes_from d q) (g.trays q) in
       let n = h q in
-      ⊎_elim
-      (λ t. let r = f.room q t in omega arith)
-      (λ t. let c = count_none d.events q t in omega arith)
-      (cases_Bool (sent_to d.events q))
+      let r = f.room q in
+      let c = count_none d.events q in grind (arith, cond_tail)
 
   module _ (deed : Game → Move → Deed) (frame : Frame deed) where
     pub within_run : (g : Game) (ms : List Move) → Within limit g → Run limit g nothing (map (deed g) ms) → Within limit (outcome place g (map (deed g) ms))
