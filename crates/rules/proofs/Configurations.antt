@@ -70,9 +70,7 @@ module _ (S : Setting) where
   -- where nothing is written or sent
   replay_past : (c : Game) (xs ys : List Event) → weight 1 1 xs ≤ 0 → replay c (xs ++ ys) ≡ replay c ys
   replay_past c [] ys h = refl
-  replay_past c (reads p a ∷ xs) ys h = replay_past c xs ys h
-  replay_past c (writes p a v ∷ xs) ys h = absurd (omega arith)
-  replay_past c (sends q m ∷ xs) ys h = absurd (omega arith)
+  replay_past c (e ∷ xs) ys h = let k = λ (c : Game). replay_past c xs ys in grind arith
 
   pub replay_only : (c : Game) (es : List Event) → weight 1 1 es ≤ 0 → replay c es ≡ Some c
   replay_only c es h = ap (replay c) (sym (append-nil es)) ∙ replay_past c es [] h

@@ -17,9 +17,7 @@ count (sends q m ∷ es) r = cond (eqb q r) (suc (count es r)) (count es r)
 
 pub count_none : (es : List Event) (r : ℕ) → sent_to es r ≡ false → count es r ≡ 0
 count_none [] r h = refl
-count_none (reads p a ∷ es) r h = count_none es r h
-count_none (writes p a v ∷ es) r h = count_none es r h
-count_none (sends q m ∷ es) r h = let k = count_none es r in grind arith
+count_none (e ∷ es) r h = let k = count_none es r in grind arith
 
 -- no event meets what an earlier move did
 pub record Cleared (s : Earlier) (es : List Event) : Type 0 where
@@ -39,9 +37,7 @@ module _ (limit : ℕ) where
 
     cleared : (n : ℕ → ℕ) (es : List Event) → along limit g s d n es ≡ pass → Cleared s es × (d.ended ≡ pass)
     cleared n [] h = grind arith
-    cleared n (reads p a ∷ es) h = let k = cleared n es in grind (arith, nat_tests)
-    cleared n (writes p a v ∷ es) h = let k = cleared n es in grind (arith, nat_tests)
-    cleared n (sends q m ∷ es) h = let k = cleared (one_more n q) es in grind (arith, nat_tests)
+    cleared n (e ∷ es) h = let k = λ (n : ℕ → ℕ). cleared n es in grind (arith, nat_tests)
 
     -- n messages having been sent before
     room_next : (n : ℕ → ℕ) (q : ℕ) (m : Message) (es : List Event) → ((r : ℕ) → left_in g r (s.took r || takes_from d r) + n r ≤ limit)

@@ -8,22 +8,18 @@ use Rattle.rules.specs.declared.fault.Why.{Why}
 use Rattle.rules.specs.declared.moves.Act.{Act}
 use Rattle.rules.specs.declared.moves.Move.{Move}
 use Rattle.rules.specs.Game.{Game}
-use Rattle.rules.specs.Trace.{Event, reads, writes, sends, Trace, onward, bind, unwanted}
+use Rattle.rules.specs.Trace.{Event, Trace, onward, bind, unwanted}
 use Rattle.rules.specs.Deed.{transit, transit_by, discard, transit_deed, discard_deed, act_deed, deed, cell_read}
 use Rattle.rules.proofs.Steps.{Steps, of_unwanted, of_transit}
 use Rattle.rules.proofs.Split.{Frame}
 
 read_left : (xs ys : List Event) (p a : ℕ) → cell_read xs p a ≡ true → cell_read (xs ++ ys) p a ≡ true
 read_left [] ys p a h = cc
-read_left (reads q b ∷ xs) ys p a h = let k = read_left xs ys p a in grind arith
-read_left (writes q b v ∷ xs) ys p a h = read_left xs ys p a h
-read_left (sends q m ∷ xs) ys p a h = read_left xs ys p a h
+read_left (e ∷ xs) ys p a h = let k = read_left xs ys p a in grind arith
 
 read_right : (xs ys : List Event) (p a : ℕ) → cell_read ys p a ≡ true → cell_read (xs ++ ys) p a ≡ true
 read_right [] ys p a h = h
-read_right (reads q b ∷ xs) ys p a h = let k = read_right xs ys p a in grind arith
-read_right (writes q b v ∷ xs) ys p a h = read_right xs ys p a h
-read_right (sends q m ∷ xs) ys p a h = read_right xs ys p a h
+read_right (e ∷ xs) ys p a h = let k = read_right xs ys p a in grind arith
 
 -- h has the values of g at all cells that the events read
 abbrev pub Agree : Game → Game → List Event → Type 0

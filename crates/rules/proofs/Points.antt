@@ -61,9 +61,7 @@ module _ (place : List Message → Message → ℕ) where
 
   numbers_in : (f : Numbers) (es : List Event) (p a : ℕ) → changed f (changes_of es) p a ≡ value_in es p a (f p a)
   numbers_in f [] p a = refl
-  numbers_in f (reads q b ∷ es) p a = numbers_in f es p a
-  numbers_in f (writes q b v ∷ es) p a = numbers_in (with_number f q b v) es p a
-  numbers_in f (sends q m ∷ es) p a = numbers_in f es p a
+  numbers_in f (e ∷ es) p a = let k = λ (f : Numbers). numbers_in f es p a in grind arith
 
   numbers_at : (f : Numbers) (ds : List Deed) (p a : ℕ) → changed f (changes ds) p a ≡ value_after ds p a (f p a)
   numbers_at f [] p a = refl
@@ -88,9 +86,7 @@ module _ (place : List Message → Message → ℕ) where
 
   parcels_in : (t : Trays) (es : List Event) (q : ℕ) → delivered place t (parcels_of es) q ≡ puts_in es q (t q)
   parcels_in t [] q = refl
-  parcels_in t (reads p a ∷ es) q = parcels_in t es q
-  parcels_in t (writes p a v ∷ es) q = parcels_in t es q
-  parcels_in t (sends p m ∷ es) q = parcels_in (put_in place t p m) es q ∙ ap (puts_in es q) (put_at t p q m)
+  parcels_in t (e ∷ es) q = let k = λ (t : Trays). parcels_in t es q in grind (arith, put_at)
 
   parcels_at : (t : Trays) (ds : List Deed) (q : ℕ) → delivered place t (parcels ds) q ≡ puts_after ds q (t q)
   parcels_at t [] q = refl

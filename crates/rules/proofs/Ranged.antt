@@ -32,15 +32,11 @@ Ranged (sends q m ∷ es) = (q < 32) × Ranged es
 -- where nothing is written or sent
 quiet : (es : List Event) → weight 1 1 es ≤ 0 → Ranged es
 quiet [] h = tt
-quiet (reads p a ∷ es) h = quiet es h
-quiet (writes p a v ∷ es) h = absurd (omega arith)
-quiet (sends q m ∷ es) h = absurd (omega arith)
+quiet (e ∷ es) h = let k = quiet es in grind arith
 
 ranged_append : (xs ys : List Event) → Ranged xs → Ranged ys → Ranged (xs ++ ys)
 ranged_append [] ys h k = k
-ranged_append (reads p a ∷ xs) ys h k = ranged_append xs ys h k
-ranged_append (writes p a v ∷ xs) ys h k = (h.0, h.1, ranged_append xs ys h.2 k)
-ranged_append (sends q m ∷ xs) ys h k = (h.0, ranged_append xs ys h.1 k)
+ranged_append (e ∷ xs) ys h k = let j = ranged_append xs ys in grind arith
 
 ranged_bind : {A B : Type 0} (t : Trace A) (k : A → Trace B) → Ranged t.events → ((x : A) → Ranged (k x).events) → Ranged (bind t k).events
 ranged_bind t k h f = grind (arith, ranged_append)
@@ -127,15 +123,11 @@ ranged L sound g m = ranged_act L sound g m.piece m.act
 
 changes_in : (es : List Event) → Ranged es → Each (λ c. (c.piece < 32) × (c.number < 8)) (changes_of es)
 changes_in [] h = tt
-changes_in (reads p a ∷ es) h = changes_in es h
-changes_in (writes p a v ∷ es) h = ((h.0, h.1), changes_in es h.2)
-changes_in (sends q m ∷ es) h = changes_in es h.1
+changes_in (e ∷ es) h = let k = changes_in es in grind arith
 
 parcels_in : (es : List Event) → Ranged es → Each (λ c. c.piece < 32) (parcels_of es)
 parcels_in [] h = tt
-parcels_in (reads p a ∷ es) h = parcels_in es h
-parcels_in (writes p a v ∷ es) h = parcels_in es h.2
-parcels_in (sends q m ∷ es) h = (h.0, parcels_in es h.1)
+parcels_in (e ∷ es) h = let k = parcels_in es in grind arith
 
 module _ (L : Level) (sound : Sound L) (g : Game) where
   pub ranged_changes : (ms : List Move) → Each (λ c. (c.piece < 32) × (c.number < 8)) (changes (map (deed L g) ms))

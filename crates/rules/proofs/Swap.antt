@@ -31,21 +31,15 @@ Keeps (d ∷ ds) = Free d ds × Keeps ds
 
 pub reads_none : (es : List Event) (w : ℕ → ℕ → Bool) → reads_any es w ≡ false → (p a : ℕ) → cell_read es p a ≡ true → w p a ≡ false
 reads_none [] w h p a e = cc
-reads_none (reads q b ∷ es) w h p a e = let k = reads_none es w in grind (arith, nat_tests)
-reads_none (writes q b v ∷ es) w h p a e = reads_none es w h p a e
-reads_none (sends q m ∷ es) w h p a e = reads_none es w h p a e
+reads_none (x ∷ es) w h p a e = let k = reads_none es w in grind (arith, nat_tests)
 
 pub value_none : (es : List Event) (p a : ℕ) (z : ℤ) → cell_written es p a ≡ false → value_in es p a z ≡ z
 value_none [] p a z h = refl
-value_none (reads q b ∷ es) p a z h = value_none es p a z h
-value_none (writes q b v ∷ es) p a z h = let k = value_none es p a z in grind arith
-value_none (sends q m ∷ es) p a z h = value_none es p a z h
+value_none (x ∷ es) p a z h = let k = value_none es p a in grind arith
 
 pub puts_none : (place : List Message → Message → ℕ) (es : List Event) (r : ℕ) (l : List Message) → sent_to es r ≡ false → puts_in place es r l ≡ l
 puts_none place [] r l h = refl
-puts_none place (reads q b ∷ es) r l h = puts_none place es r l h
-puts_none place (writes q b v ∷ es) r l h = puts_none place es r l h
-puts_none place (sends q m ∷ es) r l h = let k = puts_none place es r l in grind arith
+puts_none place (x ∷ es) r l h = let k = puts_none place es r l in grind arith
 
 or_swap : (x y z : Bool) → (x || y || z) ≡ (x || z || y)
 or_swap x y z = grind arith

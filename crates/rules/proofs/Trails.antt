@@ -35,22 +35,16 @@ weight w s (sends q m ∷ es) = s + weight w s es
 
 pub weight_changes : (es : List Event) → length (changes_of es) ≡ weight 1 0 es
 weight_changes [] = refl
-weight_changes (reads p a ∷ es) = weight_changes es
-weight_changes (writes p a v ∷ es) = let h = weight_changes es in omega arith
-weight_changes (sends q m ∷ es) = let h = weight_changes es in omega arith
+weight_changes (e ∷ es) = let h = weight_changes es in grind arith
 
 pub weight_parcels : (es : List Event) → length (parcels_of es) ≡ weight 0 1 es
 weight_parcels [] = refl
-weight_parcels (reads p a ∷ es) = weight_parcels es
-weight_parcels (writes p a v ∷ es) = let h = weight_parcels es in omega arith
-weight_parcels (sends q m ∷ es) = let h = weight_parcels es in omega arith
+weight_parcels (e ∷ es) = let h = weight_parcels es in grind arith
 
 module _ (w s : ℕ) where
   weight_append : (xs ys : List Event) → weight w s (xs ++ ys) ≡ weight w s xs + weight w s ys
   weight_append [] ys = omega arith
-  weight_append (reads p a ∷ xs) ys = weight_append xs ys
-  weight_append (writes p a v ∷ xs) ys = let h = weight_append xs ys in omega arith
-  weight_append (sends q m ∷ xs) ys = let h = weight_append xs ys in omega arith
+  weight_append (e ∷ xs) ys = let h = weight_append xs ys in grind arith
 
   weight_bind : {A B : Type 0} (t : Trace A) (k : A → Trace B) (m n : ℕ) → weight w s t.events ≤ m → ((x : A) → weight w s (k x).events ≤ n) → weight w s (bind t k).events ≤ m + n
   weight_bind t k m n h f = grind (arith, weight_append)

@@ -7,7 +7,7 @@ use Rattle.mail.specs.Trays.{Trays}
 use Rattle.rules.specs.declared.moves.Move.{Move}
 use Rattle.rules.specs.declared.trail.Parcel.{Parcel}
 use Rattle.rules.specs.Game.{Game, Within, Setting, put_in}
-use Rattle.rules.specs.Trace.{Event, reads, writes, sends}
+use Rattle.rules.specs.Trace.{Event}
 use Rattle.rules.specs.Deed.{Deed, takes_from}
 use Rattle.rules.specs.Beat.{nothing, outcome, delivered}
 use Rattle.rules.specs.Theorems.{FindRoom}
@@ -21,9 +21,7 @@ put_length place l m = rw (length-append, length-take, length-drop) (omega arith
 
 puts_length : (place : List Message → Message → ℕ) (es : List Event) (q : ℕ) (l : List Message) → length (puts_in place es q l) ≡ length l + count es q
 puts_length place [] q l = omega arith
-puts_length place (reads p a ∷ es) q l = puts_length place es q l
-puts_length place (writes p a v ∷ es) q l = puts_length place es q l
-puts_length place (sends r m ∷ es) q l = let k = puts_length place es q in grind (arith, put_length)
+puts_length place (e ∷ es) q l = let k = puts_length place es q in grind (arith, put_length)
 
 pub cond_tail : (b : Bool) (l : List Message) → length (cond b (tail l) l) ≡ length l - cond b 1 0
 cond_tail b l = grind arith
