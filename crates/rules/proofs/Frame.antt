@@ -1,15 +1,14 @@
 -- What a move does depends on its piece's state, on the message that it takes, and on the cells that it reads.
-use Rattle.std.proofs.Common.{◌≡◌, ℕ, Bool, true, false, not, List, [], ◌∷◌, ◌++◌, Some, None, Option, Result, refl, ap, ◌∙◌, arith}
+use Rattle.std.proofs.Common.{◌≡◌, ℕ, Bool, true, false, not, List, [], ◌∷◌, ◌++◌, Option, refl, arith}
 use Rattle.mail.specs.declared.message.Message.{Message}
 use Rattle.mail.specs.Trays.{front}
 use Rattle.level.specs.Syntax.{Piece, Level}
-use Rattle.level.specs.Places.{Placed, placed}
-use Rattle.rules.specs.declared.fault.Why.{Why}
+use Rattle.level.specs.Places.{Placed}
 use Rattle.rules.specs.declared.moves.Act.{Act}
 use Rattle.rules.specs.declared.moves.Move.{Move}
 use Rattle.rules.specs.Game.{Game}
-use Rattle.rules.specs.Trace.{Event, Trace, onward, bind, unwanted}
-use Rattle.rules.specs.Deed.{transit, transit_by, discard, transit_deed, discard_deed, act_deed, deed, cell_read}
+use Rattle.rules.specs.Trace.{Event, Trace, bind, unwanted}
+use Rattle.rules.specs.Deed.{transit, transit_by, transit_deed, discard_deed, act_deed, deed, cell_read}
 use Rattle.rules.proofs.Steps.{Steps, of_unwanted, of_transit}
 use Rattle.rules.proofs.Split.{Frame}
 
@@ -28,17 +27,8 @@ Agree g h es = (p a : ℕ) → cell_read es p a ≡ true → h.numbers p a ≡ g
 abbrev pub Framed : {A : Type 0} → (Game → Trace A) → Type 0
 Framed t = (g h : Game) → Agree g h (t g).events → t h ≡ t g
 
-onward_framed : {A B : Type 0} (g h : Game) (es : List Event) (o : Result A Why) (k : Game → A → Trace B) → ((x : A) → Framed (λ j. k j x))
-    → Agree g h (onward es o (k g)).events → onward es o (k h) ≡ onward es o (k g)
-onward_framed g h es o k h1 h2 = grind (arith, read_right)
-
-onward_agree : {A B : Type 0} (g h : Game) (es : List Event) (o : Result A Why) (k : A → Trace B) → Agree g h (onward es o k).events → Agree g h es
-onward_agree g h es o k e = grind (arith, read_left)
-
 framed_bind : {A B : Type 0} (t : Game → Trace A) (k : Game → A → Trace B) → Framed t → ((x : A) → Framed (λ g. k g x)) → Framed (λ g. bind (t g) (k g))
-framed_bind t k f j g h e =
-    let u : t h ≡ t g = f g h (onward_agree g h (t g).events (t g).out (k g) e) in
-    ap (λ x. bind x (k h)) u ∙ onward_framed g h (t g).events (t g).out k j e
+framed_bind t k f j g h e = let u = f g h in let v = λ (x : _). j x g h in grind (arith, read_left, read_right)
 
 framed_steps : Steps (λ A t. Framed t)
 framed_steps = record {
@@ -67,30 +57,16 @@ module _ (L : Level) (p : ℕ) where
       → Agree g h (transit_deed L g p o).events → transit_deed L h p o ≡ transit_deed L g p o
   transit_frame g h o h1 h2 h3 = grind (arith, transit_same)
 
-  discard_same : (g h : Game) (k : ℕ) (m : Option Message) → h.states p ≡ g.states p
-      → Agree g h (discard L g p k m).events → discard L h p k m ≡ discard L g p k m
-  discard_same g h k None e a = refl
-  discard_same g h k (Some m) e a = rw e (framed_unwanted k (g.states p) m (placed L) g h a)
-
   discard_frame : (g h : Game) (o : Option Piece) → h.states p ≡ g.states p
       → ((discard_deed L g p o).takes ≡ true → front (h.trays p) ≡ front (g.trays p))
       → Agree g h (discard_deed L g p o).events → discard_deed L h p o ≡ discard_deed L g p o
-  discard_frame g h o h1 h2 h3 = grind (arith, discard_same)
-
-transit_mover : (L : Level) (g : Game) (p : ℕ) (o : Option Placed) → (transit_deed L g p o).mover ≡ p
-transit_mover L g p o = grind arith
-
-discard_mover : (L : Level) (g : Game) (p : ℕ) (o : Option Piece) → (discard_deed L g p o).mover ≡ p
-discard_mover L g p o = grind arith
+  discard_frame g h o h1 h2 h3 = grind (arith, framed_unwanted)
 
 frame_act : (L : Level) (g h : Game) (p : ℕ) (m : Act) → h.states (act_deed L g p m).mover ≡ g.states (act_deed L g p m).mover
     → ((act_deed L g p m).takes ≡ true → front (h.trays (act_deed L g p m).mover) ≡ front (g.trays (act_deed L g p m).mover))
     → Agree g h (act_deed L g p m).events
     → act_deed L h p m ≡ act_deed L g p m
-frame_act L g h p m h1 h2 h3 = grind (arith, transit_mover, discard_mover, transit_frame, discard_frame)
-
-act_mover : (L : Level) (g : Game) (p : ℕ) (m : Act) → (act_deed L g p m).mover ≡ p
-act_mover L g p m = grind (arith, transit_mover, discard_mover)
+frame_act L g h p m h1 h2 h3 = grind (arith, transit_frame, discard_frame)
 
 -- a deed's mover is the piece of its move
 pub mover : (L : Level) (g : Game) (m : Move) → (deed L g m).mover ≡ m.piece

@@ -2,7 +2,7 @@
 use Rattle.std.proofs.Common.{◌≡◌, ℕ, cond, eqb, List, [], ◌∷◌, ◌++◌, ℤ, refl, ap, ◌∙◌, arith}
 use mathlib.Core.List.{tail}
 use Rattle.std.proofs.lemmas.Bool.Decides.{nat_tests}
-use Rattle.std.specs.List.{insert}
+use Rattle.std.specs.List.{insert, fold}
 use Rattle.mail.specs.declared.message.Message.{Message}
 use Rattle.mail.specs.Trays.{Trays, take_trays}
 use Rattle.rules.specs.declared.trail.Change.{Change}
@@ -13,8 +13,7 @@ use Rattle.rules.specs.Deed.{Deed, takes_from}
 use Rattle.rules.specs.Beat.{changes_of, parcels_of, changes, parcels, moved_on, changed, taken_from, delivered, outcome}
 
 abbrev pub state_after : List Deed → ℕ → ℕ → ℕ
-state_after [] p z = z
-state_after (d ∷ ds) p z = state_after ds p (cond (eqb d.mover p) d.target z)
+state_after ds p z = fold (λ z d. cond (eqb d.mover p) d.target z) z ds
 
 abbrev pub value_in : List Event → ℕ → ℕ → ℤ → ℤ
 value_in [] p a z = z
@@ -23,12 +22,10 @@ value_in (writes q b v ∷ es) p a z = value_in es p a (cond (same q b p a) v z)
 value_in (sends q m ∷ es) p a z = value_in es p a z
 
 abbrev pub value_after : List Deed → ℕ → ℕ → ℤ → ℤ
-value_after [] p a z = z
-value_after (d ∷ ds) p a z = value_after ds p a (value_in d.events p a z)
+value_after ds p a z = fold (λ z d. value_in d.events p a z) z ds
 
 abbrev pub left_after : List Deed → ℕ → List Message → List Message
-left_after [] q l = l
-left_after (d ∷ ds) q l = left_after ds q (cond (takes_from d q) (tail l) l)
+left_after ds q l = fold (λ l d. cond (takes_from d q) (tail l) l) l ds
 
 module _ (place : List Message → Message → ℕ) where
   abbrev pub put : List Message → Message → List Message
@@ -41,8 +38,7 @@ module _ (place : List Message → Message → ℕ) where
   puts_in (sends q m ∷ es) r l = puts_in es r (cond (eqb q r) (put l m) l)
 
   abbrev pub puts_after : List Deed → ℕ → List Message → List Message
-  puts_after [] r l = l
-  puts_after (d ∷ ds) r l = puts_after ds r (puts_in d.events r l)
+  puts_after ds r l = fold (λ l d. puts_in d.events r l) l ds
 
   abbrev pub ending : Game → List Deed → Game
   ending g ds = record {

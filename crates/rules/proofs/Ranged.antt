@@ -1,5 +1,5 @@
 -- In a sound level a move writes only cells in the table, and sends only to pieces in it.
-use Rattle.std.proofs.Common.{◌≡◌, ℕ, ◌+◌, ◌<◌, ◌≤◌, Bool, true, false, cond, eqb, List, [], ◌∷◌, ◌++◌, map, length, ℤ, Some, None, Option, arith}
+use Rattle.std.proofs.Common.{◌≡◌, ℕ, ◌+◌, ◌<◌, ◌≤◌, Bool, true, false, eqb, List, [], ◌∷◌, ◌++◌, map, length, ℤ, Some, None, Option, arith}
 use Rattle.mail.specs.declared.message.Message.{Message}
 use Rattle.mail.specs.Trays.{front}
 use Rattle.level.specs.Syntax.{Expr, Stmt, assign, store, send, Transition, Piece, Level}
@@ -7,16 +7,13 @@ use Rattle.level.specs.Spelling.{size, statement}
 use Rattle.level.specs.Sound.{Each, SoundStmt, SoundTransition, Sound, most_pieces}
 use Rattle.level.specs.Places.{Placed, effect_place, placed_at}
 use Rattle.level.specs.Tables.{nth}
-use Rattle.rules.specs.declared.fault.Cause.{Cause}
-use Rattle.rules.specs.declared.fault.Why.TheVariants.{Guard}
 use Rattle.rules.specs.declared.moves.Act.{Act}
 use Rattle.rules.specs.declared.moves.Act.TheVariants.{Discard}
 use Rattle.rules.specs.declared.moves.Act.TheVariants as act
 use Rattle.rules.specs.declared.moves.Move.{Move}
-use Rattle.rules.specs.Arithmetic.{holds}
 use Rattle.rules.specs.Game.{Game}
 use Rattle.rules.specs.Names.{piece_named, cell_named, transition_of}
-use Rattle.rules.specs.Trace.{Event, reads, writes, sends, Trace, halt, bind, needing, Own, no_writes, receipts, receive, evaluate, evaluate_all, run, run_all, guarded}
+use Rattle.rules.specs.Trace.{Event, reads, writes, sends, Trace, bind, Own, no_writes, receipts, receive, evaluate, evaluate_all, run, run_all, guarded}
 use Rattle.rules.specs.Checks.{pass}
 use Rattle.rules.specs.Deed.{transit, discard, transit_deed, discard_deed, act_deed, deed}
 use Rattle.rules.specs.Beat.{changes_of, parcels_of, changes, parcels}
@@ -40,9 +37,6 @@ ranged_append (e ∷ xs) ys h k = let j = ranged_append xs ys in grind arith
 
 ranged_bind : {A B : Type 0} (t : Trace A) (k : A → Trace B) → Ranged t.events → ((x : A) → Ranged (k x).events) → Ranged (bind t k).events
 ranged_bind t k h f = grind (arith, ranged_append)
-
-ranged_needing : {A B : Type 0} (P : A → Type 0) (c : Cause) (at : ℕ) (o : Option A) (k : A → Trace B) → Maybe P o → ((x : A) → P x → Ranged (k x).events) → Ranged (needing c at o k).events
-ranged_needing P c at o k h1 h2 = grind arith
 
 -- the number that a statement writes
 abbrev Narrow : Stmt → Type 0
@@ -77,20 +71,16 @@ module _ (L : Level) (few : length L.pieces ≤ 32) where
 
     ranged_run : (at : ℕ) (c : Stmt) (o : Own) → Narrow c → Ranged (run L g p at c o).events
     ranged_run at (assign a e) o n = ranged_evaluate o (at + 2) e _ (λ v. (here, n, tt))
-    ranged_run at (store a e f) o n = ranged_evaluate o (at + 2) e _ (λ v. ranged_evaluate o (at + 2 + size e) f _ (λ u. ranged_needing (λ q. q < 32) _ at (cell_named L v a) _ (cell_in v a) (λ q h. (h, n, tt))))
+    ranged_run at (store a e f) o n = ranged_evaluate o (at + 2) e _ (λ v. ranged_evaluate o (at + 2 + size e) f _ (λ u. let k = cell_in v a in grind arith))
     ranged_run at (send s e es) o n = ranged_evaluate o (at + 2) e _ (λ v. ranged_bind (evaluate_all L g p o (at + 2 + size e) es) _ (quiet (evaluate_all L g p o (at + 2 + size e) es).events (weight_evaluate_all 1 1 L g p o (at + 2 + size e) es))
-        (λ vs. ranged_needing (λ q. q < 32) _ at (piece_named L v) _ (piece_in v) (λ q h. (h, tt))))
+        (λ vs. let k = piece_in v in grind arith))
 
     ranged_run_all : (at : ℕ) (cs : List Stmt) (o : Own) → Each Narrow cs → Ranged (run_all L g p at cs o).events
     ranged_run_all at [] o n = tt
     ranged_run_all at (c ∷ cs) o n = ranged_bind (run L g p at c o) _ (ranged_run at c o n.0) (λ o'. ranged_run_all (at + length (statement c)) cs o' n.1)
 
     ranged_guarded : (t : Placed) (o : Own) → Narrows t → Ranged (guarded L g p t o).events
-    ranged_guarded t o n = ranged_evaluate o t.guard t.transition.guard _ (λ v. go (holds v))
-      where
-        go : (b : Bool) → Ranged (cond b (run_all L g p (effect_place t) t.transition.effect o) (halt Guard)).events
-        go true = ranged_run_all (effect_place t) t.transition.effect o n.1
-        go false = tt
+    ranged_guarded t o n = ranged_evaluate o t.guard t.transition.guard _ (λ v. let k = ranged_run_all (effect_place t) t.transition.effect o n.1 in grind arith)
 
     ranged_receive : (l : List ℕ) (m : Message) (o : Own) → Each (λ a. a < 8) l → Ranged (receive p (receipts l m) o).events
     ranged_receive l m o h1 = grind arith

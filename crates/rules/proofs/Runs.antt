@@ -4,8 +4,6 @@ use Rattle.std.proofs.lemmas.Bool.{le-leb}
 use Rattle.mail.specs.declared.message.Message.{Message}
 use Rattle.rules.specs.declared.fault.CallFault.{CallFault}
 use Rattle.rules.specs.declared.fault.MoveFault.{MoveFault}
-use Rattle.rules.specs.declared.fault.StrikeFault.TheVariants.{ShortTrail}
-use Rattle.rules.specs.declared.fault.CallFault.TheVariants.{Strike}
 use Rattle.rules.specs.declared.fault.TapFault.{TapFault}
 use Rattle.rules.specs.declared.fault.Why.{Why}
 use Rattle.rules.specs.declared.moves.Move.{Move}
@@ -13,7 +11,7 @@ use Rattle.rules.specs.Game.{Game, Within, put_in, Setting}
 use Rattle.rules.specs.Checks.{Check, pass, fail}
 use Rattle.rules.specs.Deed.{deed}
 use Rattle.rules.specs.Beat.{Earlier, nothing, and_so, judge, in_turn, judge_all, outcome}
-use Rattle.rules.specs.Calls.{Lent, full, Call, tap, fire, strike, accepted, After, refuse, move_of, moves_of, yield, tap_check, tapped, struck, beat, listed, lent, call}
+use Rattle.rules.specs.Calls.{Lent, full, Call, tap, fire, strike, accepted, After, refuse, move_of, moves_of, yield, tap_check, tapped, struck, listed, lent, call}
 use Rattle.rules.specs.Order.{Insert, here, there, Reordered, none, first}
 use Rattle.rules.specs.Runs.{KeepsOrder, Part, strikes, joined, play, Altered, end, keep, recut, leave, AddUp, done, next, AnswersAgree, EndAlike}
 use Rattle.rules.proofs.Fine.{clear, fine, judged}
@@ -73,10 +71,6 @@ module _ (S : Setting) where
     answer : n ≡ length ms
 
   -- what comes of moves that pass
-  well : (g : Game) (t : Lent) (ms : List Move) → full t ≡ true → 1 ≤ length ms → length ms ≤ 16 → Run S.limit g nothing (map (deed S.level g) ms)
-      → lent S g t (listed S g (Some ms)) ≡ struck S g ms pass
-  well g t ms h1 h2 h3 h4 = let k = run_passed g nothing 0 ms h4 in grind (arith, le-leb)
-
   pub cond_accepted : (b : Bool) (x : After) (f : CallFault) (g : Game) (n : ℕ) → (cond b x (refuse f g)).answer ≡ accepted n → (b ≡ true) × (x.answer ≡ accepted n)
   cond_accepted b x f g n h = grind arith
 
@@ -92,7 +86,7 @@ module _ (S : Setting) where
 
   struck_well : (g : Game) (t : Lent) (bytes : List ℕ) (ms : List Move) → moves_of bytes ≡ Some ms
       → full t ≡ true → 1 ≤ length ms → length ms ≤ 16 → Run S.limit g nothing (map (deed S.level g) ms) → call S g (strike t bytes) ≡ struck S g ms pass
-  struck_well g t bytes ms e l a b r = ap (λ o. lent S g t (listed S g o)) e ∙ well g t ms l a b r
+  struck_well g t bytes ms e l a b r = let k = run_passed g nothing 0 ms r in grind (arith, le-leb)
 
   play_append : (g : Game) (cs ds : List Call) → play S g (cs ++ ds) ≡ play S (play S g cs) ds
   play_append g [] ds = refl
@@ -128,9 +122,6 @@ module _ (S : Setting) where
       )
 
   -- no tray grows over the limit
-  within_cond : (b : Bool) (x y : After) → Within S.limit x.game → Within S.limit y.game → Within S.limit (cond b x y).game
-  within_cond b x y h k = grind arith
-
   within_struck : (g : Game) (ms : List Move) (c : Check MoveFault) → Within S.limit g → judge_all S.limit g S.level nothing 0 ms ≡ c → Within S.limit (struck S g ms c).game
   within_struck g ms pass w e = within_run S.limit S.place (deed S.level) (frame S.level) g ms w (passed_run g nothing 0 ms w e)
   within_struck g ms (fail f) w e = w
@@ -146,8 +137,8 @@ module _ (S : Setting) where
 
   pub within_call : (g : Game) (c : Call) → Within S.limit g → Within S.limit (call S g c).game
   within_call g (tap p m) w = within_tapped g p m _ w refl
-  within_call g (fire t p n) w = within_cond (full t) (beat S g (move_of p n ∷ [])) (refuse (Strike ShortTrail) g) (within_struck g (move_of p n ∷ []) _ w refl) w
-  within_call g (strike t bs) w = within_cond (full t) (listed S g (moves_of bs)) (refuse (Strike ShortTrail) g) (within_listed g (moves_of bs) w) w
+  within_call g (fire t p n) w = let k = within_struck g (move_of p n ∷ []) _ w refl in grind arith
+  within_call g (strike t bs) w = let k = within_listed g (moves_of bs) w in grind arith
 
   pub altered_alike : {g : Game} {cs ds : List Call} (r : Altered S g cs ds) → Within S.limit g → EndAlike S r
   altered_alike end w = record { games = refl; answers = tt }

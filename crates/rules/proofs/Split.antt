@@ -1,7 +1,9 @@
 -- An accepted beat may be cut: its second part is accepted on the game after its first, and they end as the whole does.
-use Rattle.std.proofs.Common.{◌≡◌, ℕ, ◌-◌, true, false, cond, List, [], ◌∷◌, ◌++◌, map, length, ℤ, sym, refl, ap, ◌∙◌, subst, ap₂, arith}
+use Rattle.std.proofs.Common.{◌≡◌, ℕ, ◌-◌, true, false, cond, eqb, List, [], ◌∷◌, ◌++◌, map, length, ℤ, sym, refl, ap, ◌∙◌, subst, ap₂, arith}
 use mathlib.Core.List.{tail}
+use Rattle.std.specs.List.{fold}
 use Rattle.std.proofs.lemmas.List.{map-append}
+use Rattle.std.proofs.lemmas.List.Sums.{fold-append}
 use Rattle.std.proofs.lemmas.Bool.Decides.{nat_tests}
 use Rattle.mail.specs.declared.message.Message.{Message}
 use Rattle.mail.specs.Trays.{front}
@@ -9,7 +11,7 @@ use Rattle.rules.specs.declared.moves.Move.{Move}
 use Rattle.rules.specs.Game.{Game}
 use Rattle.rules.specs.Deed.{Deed, cell_read}
 use Rattle.rules.specs.Beat.{Earlier, nothing, and_so, left_in, outcome}
-use Rattle.rules.proofs.Points.{state_after, value_after, left_after, puts_after, ending, points}
+use Rattle.rules.proofs.Points.{state_after, value_in, value_after, left_after, puts_after, ending, points}
 use Rattle.rules.proofs.Fine.{Fine}
 use Rattle.rules.proofs.Swap.{value_none, puts_none, Run}
 
@@ -21,24 +23,7 @@ Frame deed = (g h : Game) (m : Move) → h.states (deed g m).mover ≡ g.states 
     → deed h m ≡ deed g m
 
 abbrev so_far : Earlier → List Deed → Earlier
-so_far s [] = s
-so_far s (d ∷ ds) = so_far (and_so s d) ds
-
-state_append : (xs ys : List Deed) (p z : ℕ) → state_after (xs ++ ys) p z ≡ state_after ys p (state_after xs p z)
-state_append [] ys p z = refl
-state_append (x ∷ xs) ys p z = state_append xs ys p _
-
-value_append : (xs ys : List Deed) (p a : ℕ) (z : ℤ) → value_after (xs ++ ys) p a z ≡ value_after ys p a (value_after xs p a z)
-value_append [] ys p a z = refl
-value_append (x ∷ xs) ys p a z = value_append xs ys p a _
-
-left_append : (xs ys : List Deed) (q : ℕ) (l : List Message) → left_after (xs ++ ys) q l ≡ left_after ys q (left_after xs q l)
-left_append [] ys q l = refl
-left_append (x ∷ xs) ys q l = left_append xs ys q _
-
-puts_append : (place : List Message → Message → ℕ) (xs ys : List Deed) (q : ℕ) (l : List Message) → puts_after place (xs ++ ys) q l ≡ puts_after place ys q (puts_after place xs q l)
-puts_append place [] ys q l = refl
-puts_append place (x ∷ xs) ys q l = puts_append place xs ys q _
+so_far s ds = fold and_so s ds
 
 -- a piece that has not moved has its state, and its tray was not taken from
 unmoved : (s : Earlier) (ds : List Deed) (p : ℕ) → (so_far s ds).moved p ≡ false
@@ -109,12 +94,12 @@ module _ (limit : ℕ) where
         → puts_after place (xs ++ ys) q (left_after (xs ++ ys) q l) ≡ puts_after place ys q (left_after ys q (puts_after place xs q (left_after xs q l)))
     trays_append g xs ys r q l =
         let a = sent_none g (so_far nothing xs) ys q (run_parts g nothing xs ys r).1 in
-        let b = unsent place nothing xs q in grind (arith, puts_append, left_append)
+        let b = unsent place nothing xs q in grind (arith, fold-append)
 
     ending_append : (g : Game) (xs ys : List Deed) → Run limit g nothing (xs ++ ys) → ending place g (xs ++ ys) ≡ ending place (ending place g xs) ys
     ending_append g xs ys r = λ i. record {
-      states = λ p. state_append xs ys p (g.states p) i;
-      numbers = λ p a. value_append xs ys p a (g.numbers p a) i;
+      states = λ p. fold-append (λ z d. cond (eqb d.mover p) d.target z) (g.states p) xs ys i;
+      numbers = λ p a. fold-append (λ z d. value_in d.events p a z) (g.numbers p a) xs ys i;
       trays = λ q. trays_append g xs ys r q (g.trays q) i;
     }
 

@@ -1,28 +1,25 @@
 -- How much a move writes and sends.
-use Rattle.std.proofs.Common.{◌≡◌, ℕ, zero, suc, ◌+◌, ◌*◌, ◌<◌, ◌≤◌, Bool, true, false, cond, ◌&&◌, eqb, leb, List, [], ◌∷◌, ◌++◌, map, length, Some, None, Option, refl, arith, length-append}
+use Rattle.std.proofs.Common.{◌≡◌, ℕ, zero, suc, ◌+◌, ◌*◌, ◌<◌, ◌≤◌, Bool, true, cond, eqb, List, [], ◌∷◌, ◌++◌, map, length, Some, None, Option, refl, arith, length-append}
 use Rattle.std.proofs.lemmas.Bool.{leb-true, and_parts}
 use Rattle.mail.specs.declared.message.Message.{Message}
 use Rattle.mail.specs.Trays.{front}
-use Rattle.level.specs.Syntax.{Expr, Stmt, assign, store, send, Transition, Kind, Piece, Level}
+use Rattle.level.specs.Syntax.{Expr, Stmt, assign, store, send, Transition, Kind, Level}
 use Rattle.level.specs.Spelling.{size, statement, transition, kind}
 use Rattle.level.specs.Sound.{Each, SoundKind, SoundTransition, Sound, most_statements}
 use Rattle.level.specs.Places.{Placed, effect_place, placed_at, in_kind, in_kinds, placed}
 use Rattle.level.specs.Tables.{nth}
-use Rattle.rules.specs.declared.fault.Cause.{Cause}
 use Rattle.rules.specs.declared.fault.MoveFault.{MoveFault}
-use Rattle.rules.specs.declared.fault.Why.TheVariants.{Guard}
 use Rattle.rules.specs.declared.moves.Act.{Act}
 use Rattle.rules.specs.declared.moves.Act.TheVariants.{Discard}
 use Rattle.rules.specs.declared.moves.Act.TheVariants as act
 use Rattle.rules.specs.declared.moves.Move.{Move}
-use Rattle.rules.specs.Arithmetic.{holds}
 use Rattle.rules.specs.Game.{Game, Setting}
-use Rattle.rules.specs.Names.{then, piece_named, cell_named, transition_of}
-use Rattle.rules.specs.Trace.{Event, reads, writes, sends, Trace, halt, bind, needing, Own, no_writes, receipts, receive, evaluate, evaluate_all, run, run_all, guarded, unwanted}
+use Rattle.rules.specs.Names.{then, transition_of}
+use Rattle.rules.specs.Trace.{Event, reads, writes, sends, Trace, bind, Own, receipts, receive, evaluate, evaluate_all, run, run_all, guarded, unwanted}
 use Rattle.rules.specs.Checks.{Check}
-use Rattle.rules.specs.Deed.{transit, discard, transit_deed, discard_deed, act_deed, deed}
+use Rattle.rules.specs.Deed.{transit, discard, transit_deed, act_deed, deed}
 use Rattle.rules.specs.Beat.{nothing, judge_all, changes_of, parcels_of, changes, parcels}
-use Rattle.rules.specs.Calls.{full, Call, tap, fire, strike, After, move_of, moves_of, struck, beat, listed, call}
+use Rattle.rules.specs.Calls.{Call, tap, fire, strike, After, move_of, moves_of, struck, listed, call}
 use Rattle.rules.specs.Theorems.{TrailsSuffice}
 use Rattle.rules.proofs.Steps.{Steps, of_evaluate, of_evaluate_all, of_unwanted}
 
@@ -49,9 +46,6 @@ module _ (w s : ℕ) where
   weight_bind : {A B : Type 0} (t : Trace A) (k : A → Trace B) (m n : ℕ) → weight w s t.events ≤ m → ((x : A) → weight w s (k x).events ≤ n) → weight w s (bind t k).events ≤ m + n
   weight_bind t k m n h f = grind (arith, weight_append)
 
-  weight_needing : {A B : Type 0} (c : Cause) (at : ℕ) (o : Option A) (k : A → Trace B) (n : ℕ) → ((x : A) → weight w s (k x).events ≤ n) → weight w s (needing c at o k).events ≤ n
-  weight_needing c at o k n h = grind arith
-
   -- evaluations and trials weigh nothing
   weightless : Steps (λ A t. (g : Game) → weight w s (t g).events ≤ 0)
   weightless = record {
@@ -73,9 +67,9 @@ module _ (w s : ℕ) where
       weight_run : (at : ℕ) (c : Stmt) (o : Own) → weight w s (run L g p at c o).events ≤ 1
       weight_run at (assign a e) o = weight_bind (evaluate L g p o (at + 2) e) _ 0 1 (weight_evaluate o (at + 2) e) (λ v. omega arith)
       weight_run at (store a e f) o = weight_bind (evaluate L g p o (at + 2) e) _ 0 1 (weight_evaluate o (at + 2) e)
-          (λ v. weight_bind (evaluate L g p o (at + 2 + size e) f) _ 0 1 (weight_evaluate o (at + 2 + size e) f) (λ u. weight_needing _ at (cell_named L v a) _ 1 (λ q. omega arith)))
+          (λ v. weight_bind (evaluate L g p o (at + 2 + size e) f) _ 0 1 (weight_evaluate o (at + 2 + size e) f) (λ u. grind arith))
       weight_run at (send k e es) o = weight_bind (evaluate L g p o (at + 2) e) _ 0 1 (weight_evaluate o (at + 2) e)
-          (λ v. weight_bind (evaluate_all L g p o (at + 2 + size e) es) _ 0 1 (weight_evaluate_all o (at + 2 + size e) es) (λ vs. weight_needing _ at (piece_named L v) _ 1 (λ q. omega arith)))
+          (λ v. weight_bind (evaluate_all L g p o (at + 2 + size e) es) _ 0 1 (weight_evaluate_all o (at + 2 + size e) es) (λ vs. grind arith))
 
       weight_run_all : (at : ℕ) (cs : List Stmt) (o : Own) → weight w s (run_all L g p at cs o).events ≤ length cs
       weight_run_all at [] o = omega arith
@@ -84,21 +78,16 @@ module _ (w s : ℕ) where
 
       weight_guarded : (t : Placed) (o : Own) → weight w s (guarded L g p t o).events ≤ length t.transition.effect
       weight_guarded t o =
-          let h = weight_bind (evaluate L g p o t.guard t.transition.guard) (λ v. cond (holds v) (run_all L g p (effect_place t) t.transition.effect o) (halt Guard)) 0 (length t.transition.effect)
-          (weight_evaluate o t.guard t.transition.guard) (λ v. go (holds v)) in omega arith
-        where
-          go : (b : Bool) → weight w s (cond b (run_all L g p (effect_place t) t.transition.effect o) (halt Guard)).events ≤ length t.transition.effect
-          go true = weight_run_all (effect_place t) t.transition.effect o
-          go false = omega arith
+          let h = weight_evaluate o t.guard t.transition.guard in
+          let k = weight_run_all (effect_place t) t.transition.effect o in grind (arith, weight_append)
 
       weight_receive : (l : List ℕ) (m : Message) (o : Own) → weight w s (receive p (receipts l m) o).events ≤ w * 2
       weight_receive l m o = grind arith
 
       pub weight_transit : (t : Placed) (b : Bool) (m : Option Message) → weight w s (transit L g p t b m).events ≤ w * 2 + length t.transition.effect
-      weight_transit t true m = let h = weight_guarded t no_writes in omega arith
-      weight_transit t false None = omega arith
-      weight_transit t false (Some m) =
-          weight_bind (receive p (receipts t.transition.receives m) no_writes) (guarded L g p t) (w * 2) (length t.transition.effect) (weight_receive t.transition.receives m no_writes) (λ o. weight_guarded t o)
+      weight_transit t b m =
+          let h = weight_guarded t in
+          let k = weight_receive t.transition.receives in grind (arith, weight_append)
 
     pub weight_unwanted : (k z : ℕ) (m : Message) (ts : List Placed) → weight w s (unwanted L g p k z m ts).events ≤ 0
     weight_unwanted k z m ts = of_unwanted _ weightless L p k z m ts g
@@ -169,52 +158,37 @@ module _ (L : Level) (sound : Sound L) (g : Game) where
   weight_of w s w1 s1 p None f = omega arith
   weight_of w s w1 s1 p (Some t) f = let h = weight_transit w s L g p w1 s1 t (eqb t.transition.signal 0) (front (g.trays p)) in omega arith
 
-  weight_away : (w s : ℕ) (p : ℕ) (o : Option Piece) → weight w s (discard_deed L g p o).events ≤ 0
-  weight_away w s p None = omega arith
-  weight_away w s p (Some x) = weight_discard w s L g p x.kind (front (g.trays p))
-
   weight_act : (w s : ℕ) → w ≤ 1 → s ≤ 1 → (p : ℕ) (a : Act) → weight w s (act_deed L g p a).events ≤ w * 2 + 8
   weight_act w s w1 s1 p (act.Transition n) = weight_of w s w1 s1 p (transition_of L p n) (few_of L p n sound)
-  weight_act w s w1 s1 p Discard = let h = weight_away w s p (nth L.pieces p) in omega arith
+  weight_act w s w1 s1 p Discard = let h = weight_discard w s L g p in grind arith
 
   changes_fit : (ms : List Move) → length (changes (map (deed L g) ms)) ≤ 10 * length ms
   changes_fit [] = omega arith
   changes_fit (m ∷ ms) =
-      let a = length-append (changes_of (deed L g m).events) (changes (map (deed L g) ms)) in
-      let b = weight_changes (deed L g m).events in
       let c = weight_act 1 0 (omega arith) (omega arith) m.piece m.act in
-      let d = changes_fit ms in omega arith
+      let d = changes_fit ms in grind (arith, length-append, weight_changes)
 
   parcels_fit : (ms : List Move) → length (parcels (map (deed L g) ms)) ≤ 8 * length ms
   parcels_fit [] = omega arith
   parcels_fit (m ∷ ms) =
-      let a = length-append (parcels_of (deed L g m).events) (parcels (map (deed L g) ms)) in
-      let b = weight_parcels (deed L g m).events in
       let c = weight_act 0 1 (omega arith) (omega arith) m.piece m.act in
-      let d = parcels_fit ms in omega arith
+      let d = parcels_fit ms in grind (arith, length-append, weight_parcels)
 
 module _ (S : Setting) (sound : Sound S.level) (g : Game) where
   abbrev Fit : After → Type 0
   Fit a = (length a.changes ≤ 160) × (length a.parcels ≤ 128)
 
-  fit_none : (n m : ℕ) → (0 ≤ n) × (0 ≤ m)
-  fit_none n m = (omega arith, omega arith)
-
-  fit_cond : (b : Bool) (x y : After) → (b ≡ true → Fit x) → Fit y → Fit (cond b x y)
-  fit_cond b x y h k = grind arith
-
   fit_struck : (ms : List Move) (c : Check MoveFault) → length ms ≤ 16 → Fit (struck S g ms c)
   fit_struck ms c h1 = grind (arith, changes_fit, parcels_fit)
 
   fit_listed : (o : Option (List Move)) → Fit (listed S g o)
-  fit_listed None = fit_none 160 128
-  fit_listed (Some ms) = fit_cond (leb 1 (length ms) && leb (length ms) 16) (beat S g ms) _
-      (λ h. fit_struck ms (judge_all S.limit g S.level nothing 0 ms) (leb-true _ 16 (and_parts (leb 1 (length ms)) _ h).1)) (fit_none 160 128)
+  fit_listed None = grind arith
+  fit_listed (Some ms) = let k = fit_struck ms (judge_all S.limit g S.level nothing 0 ms) in grind (arith, leb-true, and_parts)
 
   fit_call : (c : Call) → Fit (call S g c)
   fit_call (tap p m) = grind arith
-  fit_call (fire t p n) = fit_cond (full t) (beat S g (move_of p n ∷ [])) _ (λ h. fit_struck (move_of p n ∷ []) (judge_all S.limit g S.level nothing 0 (move_of p n ∷ [])) (omega arith)) (fit_none 160 128)
-  fit_call (strike t bs) = fit_cond (full t) (listed S g (moves_of bs)) _ (λ h. fit_listed (moves_of bs)) (fit_none 160 128)
+  fit_call (fire t p n) = let k = fit_struck (move_of p n ∷ []) (judge_all S.limit g S.level nothing 0 (move_of p n ∷ [])) (omega arith) in grind arith
+  fit_call (strike t bs) = let k = fit_listed (moves_of bs) in grind arith
 
 pub trails_suffice : TrailsSuffice
 trails_suffice = record { moves = λ L sound g ms. (changes_fit L sound g ms, parcels_fit L sound g ms); calls = fit_call }
