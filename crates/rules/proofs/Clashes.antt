@@ -1,9 +1,8 @@
 -- A move is refused for a clash only where it clashes with an earlier one.
-use Rattle.std.proofs.Common.{◌≡◌, ℕ, suc, ◌+◌, Bool, true, ◌||◌, eqb, ◌⊎◌, List, [], ◌∷◌, ℤ, Some, None, Err, Option, Result, sym, refl, ap, ◌∙◌, subst, inl, inr, ⊎_elim, arith}
-use Rattle.std.proofs.lemmas.Bool.{false≢true, or_cases, or_left, or_right, eq-eqb}
+use Rattle.std.proofs.Common.{◌≡◌, ℕ, suc, ◌+◌, Bool, true, ◌||◌, eqb, ◌⊎◌, List, [], ◌∷◌, ℤ, Some, None, Err, Option, sym, refl, ap, ◌∙◌, subst, inl, inr, ⊎_elim, arith}
+use Rattle.std.proofs.lemmas.Bool.{false≢true, or_left, eq-eqb}
 use Rattle.std.proofs.lemmas.Bool.Decides.{nat_tests}
 use Rattle.mail.specs.declared.message.Message.{Message}
-use Rattle.mail.specs.Trays.{front}
 use Rattle.level.specs.Syntax.{Piece, Level}
 use Rattle.level.specs.Places.{Placed, placed}
 use Rattle.level.specs.Tables.{nth}
@@ -18,7 +17,7 @@ use Rattle.rules.specs.declared.moves.Move.{Move}
 use Rattle.rules.specs.Game.{Game, same, Setting}
 use Rattle.rules.specs.Names.{transition_of}
 use Rattle.rules.specs.Trace.{Event, reads, writes, sends, Trace}
-use Rattle.rules.specs.Checks.{Check, pass, fail, and_then, never, ended_by}
+use Rattle.rules.specs.Checks.{Check, pass, fail, and_then, never}
 use Rattle.rules.specs.Deed.{Deed, transit, discard, transit_deed, discard_deed, act_deed, deed, cell_read, cell_written, sent_to, takes_from}
 use Rattle.rules.specs.Beat.{Clashes, Earlier, nothing, and_so, one_more, left_in, along, judge, in_turn, judge_all}
 use Rattle.rules.specs.Calls.{refused, struck}
@@ -52,27 +51,11 @@ record Quiet (d : Deed) : Type 0 where
   ready : d.ready ≡ fail Clash → ⊥
   ended : d.ended ≡ fail Clash → ⊥
 
-calm_ended : {A : Type 0} (o : Result A Why) → (o ≡ Err Clash → ⊥) → ended_by o ≡ fail Clash → ⊥
-calm_ended o h k = grind arith
-
 quiet_transit : (L : Level) (g : Game) (p : ℕ) (o : Option Placed) → Quiet (transit_deed L g p o)
-quiet_transit L g p None = record { known = λ e. absurd (false≢true cc); ready = λ e. absurd (false≢true cc); ended = λ e. absurd (false≢true cc) }
-quiet_transit L g p (Some t) =
-    let b = eqb t.transition.signal 0 in
-    let m = front (g.trays p) in record {
-      known = λ e. absurd (false≢true cc);
-      ready = λ e. grind arith;
-      ended = calm_ended (transit L g p t b m).out (calm_transit L g p t b m);
-    }
+quiet_transit L g p o = grind (arith, calm_transit)
 
 quiet_discard : (L : Level) (g : Game) (p : ℕ) (o : Option Piece) → Quiet (discard_deed L g p o)
-quiet_discard L g p None = record { known = λ e. absurd (false≢true cc); ready = λ e. absurd (false≢true cc); ended = λ e. absurd (false≢true cc) }
-quiet_discard L g p (Some x) =
-    let m = front (g.trays p) in record {
-      known = λ e. absurd (false≢true cc);
-      ready = λ e. grind arith;
-      ended = calm_ended (discard L g p x.kind m).out (calm_discard L g p x.kind m);
-    }
+quiet_discard L g p o = grind (arith, calm_discard)
 
 quiet : (L : Level) (g : Game) (p : ℕ) (a : Act) → Quiet (act_deed L g p a)
 quiet L g p (Transition n) = quiet_transit L g p (transition_of L p n)
@@ -89,14 +72,10 @@ met_past_read : (s : Earlier) (p a : ℕ) (es : List Event) → Met s es → Met
 met_past_read s p a es h = grind arith
 
 met_past_write : (s : Earlier) (p a : ℕ) (v : ℤ) (es : List Event) → Met s es → Met s (writes p a v ∷ es)
-met_past_write s p a v es (inl m) = inl m
-met_past_write s p a v es (inr (inl (q, b, h, k))) = inr (inl (q, b, or_right (same p a q b) _ h, k))
-met_past_write s p a v es (inr (inr m)) = inr (inr m)
+met_past_write s p a v es h = grind arith
 
 met_past_send : (s : Earlier) (q : ℕ) (m : Message) (es : List Event) → Met s es → Met s (sends q m ∷ es)
-met_past_send s q m es (inl h) = inl h
-met_past_send s q m es (inr (inl h)) = inr (inl h)
-met_past_send s q m es (inr (inr (r, h, k))) = inr (inr (r, or_right (eqb q r) _ h, k))
+met_past_send s q m es h = grind arith
 
 -- a test that fails for a clash, or the next one does
 next_clash : (b : Bool) (c : Check Why) → and_then (never b Clash) c ≡ fail Clash → (b ≡ true) ⊎ (c ≡ fail Clash)
@@ -137,10 +116,7 @@ module _ (L : Level) (g : Game) where
     sent : (q : ℕ) → s.sent q ≡ true → (x : Move) × P x × (sent_to (deed L g x).events q ≡ true)
 
   done_next : (s : Earlier) (P : Move → Type 0) (m : Move) → Done s P → Done (and_so s (deed L g m)) (λ x. P x ⊎ (x ≡ m))
-  done_next s P m d = record {
-    wrote = λ p a h. ⊎_elim (λ e. let (x, i, k) = d.wrote p a e in (x, inl i, k)) (λ e. (m, inr refl, e)) (or_cases (s.wrote p a) _ h);
-    sent = λ q h. ⊎_elim (λ e. let (x, i, k) = d.sent q e in (x, inl i, k)) (λ e. (m, inr refl, e)) (or_cases (s.sent q) _ h);
-  }
+  done_next s P m d = grind arith
 
   with_earlier : (s : Earlier) (P : Move → Type 0) (d : Deed) → Done s P → ((d.takes ≡ true) × (s.sent d.mover ≡ true)) ⊎ Met s d.events
       → (x : Move) × P x × Clashes (deed L g x) d

@@ -1,5 +1,5 @@
 -- In a sound level a move writes only cells in the table, and sends only to pieces in it.
-use Rattle.std.proofs.Common.{◌≡◌, ℕ, ◌+◌, ◌<◌, ◌≤◌, Bool, true, false, eqb, List, [], ◌∷◌, ◌++◌, map, length, ℤ, Some, None, Option, arith}
+use Rattle.std.proofs.Common.{◌≡◌, ℕ, ◌+◌, ◌<◌, ◌≤◌, Bool, eqb, List, [], ◌∷◌, ◌++◌, map, length, ℤ, Some, None, Option, arith}
 use Rattle.mail.specs.declared.message.Message.{Message}
 use Rattle.mail.specs.Trays.{front}
 use Rattle.level.specs.Syntax.{Expr, Stmt, assign, store, send, Transition, Piece, Level}
@@ -13,9 +13,9 @@ use Rattle.rules.specs.declared.moves.Act.TheVariants as act
 use Rattle.rules.specs.declared.moves.Move.{Move}
 use Rattle.rules.specs.Game.{Game}
 use Rattle.rules.specs.Names.{piece_named, cell_named, transition_of}
-use Rattle.rules.specs.Trace.{Event, reads, writes, sends, Trace, bind, Own, no_writes, receipts, receive, evaluate, evaluate_all, run, run_all, guarded}
+use Rattle.rules.specs.Trace.{Event, reads, writes, sends, Trace, bind, Own, receipts, receive, evaluate, evaluate_all, run, run_all, guarded}
 use Rattle.rules.specs.Checks.{pass}
-use Rattle.rules.specs.Deed.{transit, discard, transit_deed, discard_deed, act_deed, deed}
+use Rattle.rules.specs.Deed.{transit, transit_deed, discard_deed, act_deed, deed}
 use Rattle.rules.specs.Beat.{changes_of, parcels_of, changes, parcels}
 use Rattle.rules.proofs.Trails.{weight, weight_evaluate, weight_evaluate_all, weight_discard, each_append, Maybe, nth_in, transition_has}
 
@@ -86,9 +86,9 @@ module _ (L : Level) (few : length L.pieces ≤ 32) where
     ranged_receive l m o h1 = grind arith
 
     ranged_transit : (t : Placed) (b : Bool) (m : Option Message) → Narrows t → Ranged (transit L g p t b m).events
-    ranged_transit t true m n = ranged_guarded t no_writes n
-    ranged_transit t false None n = tt
-    ranged_transit t false (Some m) n = ranged_bind (receive p (receipts t.transition.receives m) no_writes) _ (ranged_receive t.transition.receives m no_writes n.0) (λ o. ranged_guarded t o n)
+    ranged_transit t b m n =
+        let h = ranged_guarded t in
+        let k = ranged_receive t.transition.receives in grind (arith, ranged_append)
 
 few_pieces : (L : Level) → Sound L → length L.pieces ≤ 32
 unfolding most_pieces
@@ -101,8 +101,7 @@ module _ (L : Level) (sound : Sound L) (g : Game) where
       ranged_transit L f g p (omega arith) t (eqb t.transition.signal 0) (front (g.trays p)) h.0
 
   ranged_away : (p : ℕ) (o : Option Piece) → Ranged (discard_deed L g p o).events
-  ranged_away p None = tt
-  ranged_away p (Some x) = quiet (discard L g p x.kind (front (g.trays p))).events (weight_discard 1 1 L g p x.kind (front (g.trays p)))
+  ranged_away p o = let h = weight_discard 1 1 L g p in grind (arith, quiet)
 
   ranged_act : (p : ℕ) (a : Act) → Ranged (act_deed L g p a).events
   ranged_act p (act.Transition n) = ranged_of p (transition_of L p n) (transition_has L Narrows (narrows L.signals) sound p n)

@@ -1,5 +1,5 @@
 -- Whole runs: an altered list of calls ends as the old one.
-use Rattle.std.proofs.Common.{◌≡◌, ℕ, suc, ◌≤◌, Bool, true, false, cond, eqb, List, [], ◌∷◌, ◌++◌, map, length, Some, Option, sym, refl, ap, ◌∙◌, subst, arith, length-append}
+use Rattle.std.proofs.Common.{◌≡◌, ℕ, suc, ◌≤◌, Bool, true, cond, List, [], ◌∷◌, ◌++◌, map, length, Some, Option, sym, refl, ap, ◌∙◌, subst, arith, length-append}
 use Rattle.std.proofs.lemmas.Bool.{le-leb}
 use Rattle.mail.specs.declared.message.Message.{Message}
 use Rattle.rules.specs.declared.fault.CallFault.{CallFault}
@@ -7,7 +7,7 @@ use Rattle.rules.specs.declared.fault.MoveFault.{MoveFault}
 use Rattle.rules.specs.declared.fault.TapFault.{TapFault}
 use Rattle.rules.specs.declared.fault.Why.{Why}
 use Rattle.rules.specs.declared.moves.Move.{Move}
-use Rattle.rules.specs.Game.{Game, Within, put_in, Setting}
+use Rattle.rules.specs.Game.{Game, Within, Setting}
 use Rattle.rules.specs.Checks.{Check, pass, fail}
 use Rattle.rules.specs.Deed.{deed}
 use Rattle.rules.specs.Beat.{Earlier, nothing, and_so, judge, in_turn, judge_all, outcome}
@@ -126,11 +126,8 @@ module _ (S : Setting) where
   within_struck g ms pass w e = within_run S.limit S.place (deed S.level) (frame S.level) g ms w (passed_run g nothing 0 ms w e)
   within_struck g ms (fail f) w e = w
 
-  within_put : (g : Game) (p : ℕ) (m : Message) → Within S.limit g → eqb (length (g.trays p)) S.limit ≡ false → (q : ℕ) → length (put_in S.place g.trays p m q) ≤ S.limit
-  within_put g p m h1 h2 q = grind (arith, put_length)
-
   within_tapped : (g : Game) (p : ℕ) (m : Message) (c : Check TapFault) → Within S.limit g → tap_check S g p m ≡ c → Within S.limit (tapped S g (yield S g p m) c).game
-  within_tapped g p m c h1 h2 = let k = within_put g p m in grind arith
+  within_tapped g p m c w h q = let k = w q in grind (arith, put_length)
 
   within_listed : (g : Game) (o : Option (List Move)) → Within S.limit g → Within S.limit (listed S g o).game
   within_listed g o h1 = grind (arith, within_struck)

@@ -110,9 +110,7 @@ module _ (S : Setting) where
     triggered_step : (n : ℕ) (t : Placed) (l : List Message) → transition_of S.level p n ≡ Some t → (t.transition.signal ≡ 0 → ⊥) → g.trays p ≡ l
         → judge S.limit g nothing (transit_by S.level g p t false (front l)) ≡ pass
         → Step S g (record { piece = p; act = Transition n }) (outcome S.place g (transit_by S.level g p t false (front l) ∷ []))
-    triggered_step n t [] e s i h =
-        let d = transit_by S.level g p t false None in
-        grind arith
+    triggered_step n t [] e s i h = grind arith
     triggered_step n t (m ∷ l) e s i h =
         let d = transit_by S.level g p t false (Some m) in
         let (k, r, a) = judge_parts g d h in
@@ -131,9 +129,6 @@ module _ (S : Setting) where
     abbrev done : {A : Type 0} → Option A → Bool
     done None = false
     done (Some x) = true
-
-    done_ended : {A : Type 0} (o : Result A Why) → done (told o) ≡ true → ended_by o ≡ pass
-    done_ended o h = grind arith
 
     abbrev False : Option ℤ → Type 0
     False o = (z : ℤ) × (o ≡ Some z) × (holds z ≡ false)
@@ -180,9 +175,7 @@ module _ (S : Setting) where
     consumed_step : (x : Piece) (l : List Message) → nth S.level.pieces p ≡ Some x → g.trays p ≡ l
         → judge S.limit g nothing (discard_by S.level g p x.kind (front l)) ≡ pass
         → Step S g (record { piece = p; act = Discard }) (outcome S.place g (discard_by S.level g p x.kind (front l) ∷ []))
-    consumed_step x [] e i h =
-        let (k, r, a) = judge_parts g (discard_by S.level g p x.kind None) h in
-        absurd (false≢true cc)
+    consumed_step x [] e i h = grind arith
     consumed_step x (m ∷ l) e i h =
         let d = discard_by S.level g p x.kind (Some m) in
         let (k, r, a) = judge_parts g d h in
@@ -238,8 +231,8 @@ module _ (S : Setting) where
       subst (λ b. Done g b (state_set c p t.transition.target)) (sym j) (passes g p d c refl (grind (arith, nat_tests)) x y)
   of_step {g} (consumed {p = p} {x = x} {m = m} {l = l} e i f) =
       let d = discard_by S.level g p x.kind (Some m) in
-      let y = done_ended g p (unwanted S.level g p x.kind (g.states p) m (placed S.level)).out (false_all g p x.kind m (placed S.level) f) in
-      let (a, b) = passes g p d (dequeued g p) refl refl (replay_only S (dequeued g p) d.events (weight_unwanted 1 1 S.level g p x.kind (g.states p) m (placed S.level))) y in
+      let y = false_all g p x.kind m (placed S.level) f in
+      let (a, b) = passes g p d (dequeued g p) refl refl (replay_only S (dequeued g p) d.events (weight_unwanted 1 1 S.level g p x.kind (g.states p) m (placed S.level))) (grind arith) in
       let j : discard_deed S.level g p (nth S.level.pieces p) ≡ d =
       ap (discard_deed S.level g p) e ∙ ap (λ l. discard_by S.level g p x.kind (front l)) i in
       subst (λ b. Done g b (dequeued g p)) (sym j) (a, b ∙ kept_state g p)

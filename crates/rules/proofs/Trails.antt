@@ -1,5 +1,5 @@
 -- How much a move writes and sends.
-use Rattle.std.proofs.Common.{◌≡◌, ℕ, zero, suc, ◌+◌, ◌*◌, ◌<◌, ◌≤◌, Bool, true, cond, eqb, List, [], ◌∷◌, ◌++◌, map, length, Some, None, Option, refl, arith, length-append}
+use Rattle.std.proofs.Common.{◌≡◌, ℕ, zero, suc, ◌+◌, ◌*◌, ◌<◌, ◌≤◌, Bool, eqb, List, [], ◌∷◌, ◌++◌, map, length, Some, None, Option, refl, arith, length-append}
 use Rattle.std.proofs.lemmas.Bool.{leb-true, and_parts}
 use Rattle.mail.specs.declared.message.Message.{Message}
 use Rattle.mail.specs.Trays.{front}
@@ -14,7 +14,7 @@ use Rattle.rules.specs.declared.moves.Act.TheVariants.{Discard}
 use Rattle.rules.specs.declared.moves.Act.TheVariants as act
 use Rattle.rules.specs.declared.moves.Move.{Move}
 use Rattle.rules.specs.Game.{Game, Setting}
-use Rattle.rules.specs.Names.{then, transition_of}
+use Rattle.rules.specs.Names.{transition_of}
 use Rattle.rules.specs.Trace.{Event, reads, writes, sends, Trace, bind, Own, receipts, receive, evaluate, evaluate_all, run, run_all, guarded, unwanted}
 use Rattle.rules.specs.Checks.{Check}
 use Rattle.rules.specs.Deed.{transit, discard, transit_deed, act_deed, deed}
@@ -105,15 +105,6 @@ abbrev pub Maybe : {A : Type 0} → (A → Type 0) → Option A → Type 0
 Maybe P None = Unit {0}
 Maybe P (Some x) = P x
 
-pub maybe_cond : {A : Type 0} (P : A → Type 0) (b : Bool) (x : A) → (b ≡ true → P x) → Maybe P (cond b (Some x) None)
-maybe_cond P b x h1 = grind arith
-
-maybe_weaker : {A : Type 0} (P Q : A → Type 0) → ((x : A) → P x → Q x) → (o : Option A) → Maybe P o → Maybe Q o
-maybe_weaker P Q h o k = grind arith
-
-pub maybe_then : {A B : Type 0} (P : A → Type 0) (Q : B → Type 0) (o : Option A) (k : A → Option B) → Maybe P o → ((x : A) → P x → Maybe Q (k x)) → Maybe Q (then o k)
-maybe_then P Q o k h e = grind arith
-
 -- what holds of each holds of the one looked up, and its place is in the list
 each_nth : {A : Type 0} (P : A → Type 0) (xs : List A) (n : ℕ) → Each P xs → Maybe P (nth xs n)
 each_nth P [] n h = tt
@@ -123,7 +114,7 @@ each_nth P (x ∷ xs) (suc n) h = each_nth P xs n h.1
 pub nth_in : {A : Type 0} (xs : List A) (n : ℕ) → Maybe (λ x. n < length xs) (nth xs n)
 nth_in [] n = tt
 nth_in (x ∷ xs) zero = omega arith
-nth_in (x ∷ xs) (suc n) = maybe_weaker (λ y. n < length xs) _ (λ y h. omega arith) (nth xs n) (nth_in xs n)
+nth_in (x ∷ xs) (suc n) = let k = nth_in xs n in grind arith
 
 -- what every transition of a sound level has
 module _ (L : Level) (P : Placed → Type 0) (one : (k n i m : ℕ) (t : Transition) → n ≤ 8 → SoundTransition L.signals n m t → P (placed_at k n i t)) where
@@ -141,16 +132,14 @@ module _ (L : Level) (P : Placed → Type 0) (one : (k n i m : ℕ) (t : Transit
 
   -- that of a piece has it, and the piece is there
   pub transition_has : Sound L → (p n : ℕ) → Maybe (λ t. P t × (p < length L.pieces)) (transition_of L p n)
-  transition_has sound p n = maybe_then (λ x. p < length L.pieces) _ (nth L.pieces p) _ (nth_in L.pieces p) (λ x h.
-      maybe_then P _ (nth (placed L) n) _ (placed_has sound n) (λ t f.
-      maybe_cond _ (eqb t.kind x.kind) t (λ e. (f, h))))
+  transition_has sound p n = let h = nth_in L.pieces p in let k = placed_has sound n in grind arith
 
 -- the effects of a sound level have at most eight statements
 abbrev Few : Placed → Type 0
 Few t = length t.transition.effect ≤ most_statements
 
 few_of : (L : Level) (p n : ℕ) → Sound L → Maybe Few (transition_of L p n)
-few_of L p n sound = maybe_weaker _ Few (λ t h. h.0) (transition_of L p n) (transition_has L Few (λ k n i m t l h. h.statements) sound p n)
+few_of L p n sound = let h = transition_has L Few (λ k n i m t l h. h.statements) sound p n in grind arith
 
 module _ (L : Level) (sound : Sound L) (g : Game) where
   weight_of : (w s : ℕ) → w ≤ 1 → s ≤ 1 → (p : ℕ) (o : Option Placed) → Maybe Few o → weight w s (transit_deed L g p o).events ≤ w * 2 + 8

@@ -1,7 +1,7 @@
 -- An accepted beat leaves no tray over the limit.
-use Rattle.std.proofs.Common.{◌≡◌, ℕ, suc, ◌+◌, ◌-◌, ◌≤◌, Bool, cond, eqb, List, [], ◌∷◌, map, length, sym, refl, ◌∙◌, subst, arith, length-append, length-drop, length-take}
+use Rattle.std.proofs.Common.{◌≡◌, ℕ, suc, ◌+◌, ◌≤◌, cond, eqb, List, [], ◌∷◌, map, length, sym, subst, arith, length-append, length-drop, length-take}
 use mathlib.Core.List.{tail}
-use Rattle.std.proofs.lemmas.Bool.{cond-true, eq-eqb}
+use Rattle.std.proofs.lemmas.Bool.Decides.{nat_tests}
 use Rattle.mail.specs.declared.message.Message.{Message}
 use Rattle.mail.specs.Trays.{Trays}
 use Rattle.rules.specs.declared.moves.Move.{Move}
@@ -23,31 +23,23 @@ puts_length : (place : List Message → Message → ℕ) (es : List Event) (q : 
 puts_length place [] q l = omega arith
 puts_length place (e ∷ es) q l = let k = puts_length place es q in grind (arith, put_length)
 
-pub cond_tail : (b : Bool) (l : List Message) → length (cond b (tail l) l) ≡ length l - cond b 1 0
-cond_tail b l = grind arith
-
 -- how many parcels go to a piece
 abbrev addressed : List Parcel → ℕ → ℕ
 addressed [] q = 0
 addressed (c ∷ cs) q = cond (eqb c.piece q) (suc (addressed cs q)) (addressed cs q)
 
 module _ (S : Setting) where
-  put_step : (t : Trays) (p q n : ℕ) (m : Message) → length (put_in S.place t p m q) + n ≡ length (t q) + cond (eqb p q) (suc n) n
-  put_step t p q n m = grind (arith, put_at, put_length)
-
   delivered_length : (t : Trays) (ps : List Parcel) (q : ℕ) → length (delivered S.place t ps q) ≡ length (t q) + addressed ps q
   delivered_length t [] q = omega arith
-  delivered_length t (c ∷ cs) q = delivered_length (put_in S.place t c.piece c.message) cs q ∙ put_step t c.piece q (addressed cs q) c.message
+  delivered_length t (c ∷ cs) q = let k = delivered_length (put_in S.place t c.piece c.message) cs q in grind (arith, put_at, put_length)
 
   -- what ends within the limit was within it all along
   pub find_room : (t : Trays) (ps : List Parcel) → ((q : ℕ) → length (delivered S.place t ps q) ≤ S.limit) → FindRoom S t ps
   find_room t [] h = tt
   find_room t (c ∷ cs) h =
-      let p = c.piece in
-      let a = h p in
-      let b = delivered_length t (c ∷ cs) p in
-      let e : cond (eqb p p) (suc (addressed cs p)) (addressed cs p) ≡ suc (addressed cs p) = cond-true (eqb p p) _ _ (eq-eqb p p refl) in
-      (omega arith, find_room (put_in S.place t p c.message) cs h)
+      let a = h c.piece in
+      let b = delivered_length t (c ∷ cs) c.piece in
+      let k = find_room (put_in S.place t c.piece c.message) cs h in grind (arith, nat_tests)
 
 module _ (limit : ℕ) (place : List Message → Message → ℕ) where
   within_one : (g : Game) (d : Deed) → Within limit g → Fine limit g nothing d → Within limit (ending place g (d ∷ []))
@@ -55,7 +47,7 @@ module _ (limit : ℕ) (place : List Message → Message → ℕ) where
       let e = puts_length place d.events q (cond (takes_from d q) (tail (g.trays q)) (g.trays q)) in
       let n = h q in
       let r = f.room q in
-      let c = count_none d.events q in grind (arith, cond_tail)
+      let c = count_none d.events q in grind arith
 
   module _ (deed : Game → Move → Deed) (frame : Frame deed) where
     pub within_run : (g : Game) (ms : List Move) → Within limit g → Run limit g nothing (map (deed g) ms) → Within limit (outcome place g (map (deed g) ms))
