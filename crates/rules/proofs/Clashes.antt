@@ -1,6 +1,6 @@
 -- A move is refused for a clash only where it clashes with an earlier one.
-use Rattle.std.proofs.Common.{◌≡◌, ℕ, suc, ◌+◌, Bool, true, ◌||◌, eqb, ◌⊎◌, List, [], ◌∷◌, ℤ, Some, None, Err, Option, sym, refl, ap, ◌∙◌, subst, inl, inr, ⊎_elim, arith}
-use Rattle.std.proofs.lemmas.Bool.{false≢true, or_left, eq-eqb}
+use Rattle.std.proofs.Common.{◌≡◌, ℕ, suc, Bool, true, ◌⊎◌, List, [], ◌∷◌, Some, None, Err, Option, sym, refl, ap, ◌∙◌, subst, inl, inr, ⊎_elim, arith}
+use Rattle.std.proofs.lemmas.Bool.{false≢true}
 use Rattle.std.proofs.lemmas.Bool.Decides.{nat_tests}
 use Rattle.mail.specs.declared.message.Message.{Message}
 use Rattle.level.specs.Syntax.{Piece, Level}
@@ -10,16 +10,16 @@ use Rattle.rules.specs.declared.fault.CallFault.TheVariants.{Strike}
 use Rattle.rules.specs.declared.fault.StrikeFault.TheVariants.{AtMove}
 use Rattle.rules.specs.declared.fault.MoveFault.{MoveFault}
 use Rattle.rules.specs.declared.fault.Why.{Why}
-use Rattle.rules.specs.declared.fault.Why.TheVariants.{MovesAlready, Clash, TrayFull}
+use Rattle.rules.specs.declared.fault.Why.TheVariants.{Clash}
 use Rattle.rules.specs.declared.moves.Act.{Act}
 use Rattle.rules.specs.declared.moves.Act.TheVariants.{Transition, Discard}
 use Rattle.rules.specs.declared.moves.Move.{Move}
-use Rattle.rules.specs.Game.{Game, same, Setting}
+use Rattle.rules.specs.Game.{Game, Setting}
 use Rattle.rules.specs.Names.{transition_of}
-use Rattle.rules.specs.Trace.{Event, reads, writes, sends, Trace}
-use Rattle.rules.specs.Checks.{Check, pass, fail, and_then, never}
-use Rattle.rules.specs.Deed.{Deed, transit, discard, transit_deed, discard_deed, act_deed, deed, cell_read, cell_written, sent_to, takes_from}
-use Rattle.rules.specs.Beat.{Clashes, Earlier, nothing, and_so, one_more, left_in, along, judge, in_turn, judge_all}
+use Rattle.rules.specs.Trace.{Event, Trace}
+use Rattle.rules.specs.Checks.{Check, pass, fail}
+use Rattle.rules.specs.Deed.{Deed, transit, discard, transit_deed, discard_deed, act_deed, deed, cell_read, cell_written, sent_to}
+use Rattle.rules.specs.Beat.{Clashes, Earlier, nothing, and_so, along, judge, in_turn, judge_all}
 use Rattle.rules.specs.Calls.{refused, struck}
 use Rattle.rules.specs.Order.{Among, now, past, Stands, leads, later}
 use Rattle.rules.specs.Theorems.{ClashesAreReal}
@@ -68,43 +68,10 @@ Met s es =
     ⊎ (((p : ℕ) × (a : ℕ) × (cell_written es p a ≡ true) × (s.wrote p a ≡ true))
     ⊎ ((q : ℕ) × (sent_to es q ≡ true) × (s.sent q ≡ true)))
 
-met_past_read : (s : Earlier) (p a : ℕ) (es : List Event) → Met s es → Met s (reads p a ∷ es)
-met_past_read s p a es h = grind arith
-
-met_past_write : (s : Earlier) (p a : ℕ) (v : ℤ) (es : List Event) → Met s es → Met s (writes p a v ∷ es)
-met_past_write s p a v es h = grind arith
-
-met_past_send : (s : Earlier) (q : ℕ) (m : Message) (es : List Event) → Met s es → Met s (sends q m ∷ es)
-met_past_send s q m es h = grind arith
-
--- a test that fails for a clash, or the next one does
-next_clash : (b : Bool) (c : Check Why) → and_then (never b Clash) c ≡ fail Clash → (b ≡ true) ⊎ (c ≡ fail Clash)
-next_clash b c h = grind arith
-
-next_full : (b : Bool) (c : Check Why) → and_then (never b TrayFull) c ≡ fail Clash → c ≡ fail Clash
-next_full b c h = grind arith
-
-next_moved : (b : Bool) (c : Check Why) → and_then (never b MovesAlready) c ≡ fail Clash → c ≡ fail Clash
-next_moved b c h = grind arith
-
-next_own : (x c : Check Why) → (x ≡ fail Clash → ⊥) → and_then x c ≡ fail Clash → c ≡ fail Clash
-next_own x c h k = grind arith
-
 module _ (limit : ℕ) (g : Game) (s : Earlier) (d : Deed) (q : Quiet d) where
   met_along : (n : ℕ → ℕ) (es : List Event) → along limit g s d n es ≡ fail Clash → Met s es
   met_along n [] h = absurd (q.ended h)
-  met_along n (reads p a ∷ es) h = ⊎_elim
-      (λ e. inl (p, a, or_left (same p a p a) _ (grind (arith, nat_tests)), e))
-      (λ k. met_past_read s p a es (met_along n es k))
-      (next_clash (s.wrote p a) _ h)
-  met_along n (writes p a v ∷ es) h = ⊎_elim
-      (λ e. inr (inl (p, a, or_left (same p a p a) _ (grind (arith, nat_tests)), e)))
-      (λ k. met_past_write s p a v es (met_along n es k))
-      (next_clash (s.wrote p a) _ h)
-  met_along n (sends r m ∷ es) h = ⊎_elim
-      (λ e. inr (inr (r, or_left (eqb r r) _ (eq-eqb r r refl), e)))
-      (λ k. met_past_send s r m es (met_along (one_more n r) es (next_full (eqb (left_in g r (s.took r || takes_from d r) + n r) limit) _ k)))
-      (next_clash (s.sent r) _ h)
+  met_along n (e ∷ es) h = let k = λ (n : ℕ → ℕ). met_along n es in grind (arith, nat_tests)
 
   met_judge : judge limit g s d ≡ fail Clash → ((d.takes ≡ true) × (s.sent d.mover ≡ true)) ⊎ Met s d.events
   met_judge h = let k = met_along (λ r. 0) d.events in grind (arith, q.known, q.ready)

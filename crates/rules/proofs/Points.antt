@@ -61,10 +61,7 @@ module _ (place : List Message → Message → ℕ) where
 
   numbers_at : (f : Numbers) (ds : List Deed) (p a : ℕ) → changed f (changes ds) p a ≡ value_after ds p a (f p a)
   numbers_at f [] p a = refl
-  numbers_at f (d ∷ ds) p a =
-      ap (λ (k : Numbers). k p a) (changed_append f (changes_of d.events) (changes ds))
-      ∙ numbers_at (changed f (changes_of d.events)) ds p a
-      ∙ ap (value_after ds p a) (numbers_in f d.events p a)
+  numbers_at f (d ∷ ds) p a = let k = numbers_at (changed f (changes_of d.events)) ds p a in grind (arith, changed_append, numbers_in)
 
   pub taken_at : (t : Trays) (d : Deed) (q : ℕ) → cond d.takes (take_trays t d.mover) t q ≡ cond (takes_from d q) (tail (t q)) (t q)
   taken_at t d q = grind (arith, nat_tests)
@@ -86,10 +83,7 @@ module _ (place : List Message → Message → ℕ) where
 
   parcels_at : (t : Trays) (ds : List Deed) (q : ℕ) → delivered place t (parcels ds) q ≡ puts_after ds q (t q)
   parcels_at t [] q = refl
-  parcels_at t (d ∷ ds) q =
-      ap (λ (k : Trays). k q) (delivered_append t (parcels_of d.events) (parcels ds))
-      ∙ parcels_at (delivered place t (parcels_of d.events)) ds q
-      ∙ ap (puts_after ds q) (parcels_in t d.events q)
+  parcels_at t (d ∷ ds) q = let k = parcels_at (delivered place t (parcels_of d.events)) ds q in grind (arith, delivered_append, parcels_in)
 
   pub points : (g : Game) (ds : List Deed) → outcome place g ds ≡ ending g ds
   points g ds = λ i. record {

@@ -128,15 +128,9 @@ module _ (L : Level) (sound : Sound L) (g : Game) where
   ranged_parcels (m ∷ ms) = each_append _ (parcels_of (deed L g m).events) _ (parcels_in (deed L g m).events (ranged L sound g m)) (ranged_parcels ms)
 
   -- a move that is known is of a piece in the table
-  known_transit : (p : ℕ) (o : Option Placed) → Maybe (λ t. Narrows t × (p < length L.pieces)) o → (transit_deed L g p o).known ≡ pass → p < 32
-  known_transit p o h1 h2 = let f = few_pieces L sound in grind arith
-
-  known_discard : (p : ℕ) (o : Option Piece) → Maybe (λ x. p < length L.pieces) o → (discard_deed L g p o).known ≡ pass → p < 32
-  known_discard p o h1 h2 = let f = few_pieces L sound in grind arith
-
   known_act : (p : ℕ) (a : Act) → (act_deed L g p a).known ≡ pass → p < 32
-  known_act p (act.Transition n) e = known_transit p (transition_of L p n) (transition_has L Narrows (narrows L.signals) sound p n) e
-  known_act p Discard e = known_discard p (nth L.pieces p) (nth_in L.pieces p) e
+  known_act p (act.Transition n) e = let f = few_pieces L sound in let h = transition_has L Narrows (narrows L.signals) sound p n in grind arith
+  known_act p Discard e = let f = few_pieces L sound in let h = nth_in L.pieces p in grind arith
 
 pub known_mover : (L : Level) → Sound L → (g : Game) (m : Move) → (deed L g m).known ≡ pass → m.piece < 32
 known_mover L sound g m e = known_act L sound g m.piece m.act e

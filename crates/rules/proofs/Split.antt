@@ -1,6 +1,5 @@
 -- An accepted beat may be cut: its second part is accepted on the game after its first, and they end as the whole does.
 use Rattle.std.proofs.Common.{◌≡◌, ℕ, ◌-◌, true, false, cond, eqb, List, [], ◌∷◌, ◌++◌, map, length, ℤ, sym, refl, ap, ◌∙◌, subst, ap₂, arith}
-use mathlib.Core.List.{tail}
 use Rattle.std.specs.List.{fold}
 use Rattle.std.proofs.lemmas.List.{map-append}
 use Rattle.std.proofs.lemmas.List.Sums.{fold-append}
@@ -39,9 +38,6 @@ unsent : (place : List Message → Message → ℕ) (s : Earlier) (ds : List Dee
 unsent place s [] q h = grind arith
 unsent place s (d ∷ ds) q h = let k = unsent place (and_so s d) ds q h in grind (arith, puts_none)
 
-pub length_tail : (l : List Message) → length (tail l) ≡ length l - 1
-length_tail l = grind arith
-
 module _ (limit : ℕ) where
   -- whoever has moved takes no more
   moved_none : (g : Game) (s : Earlier) (ds : List Deed) (q : ℕ) → Run limit g s ds → s.moved q ≡ true
@@ -59,7 +55,7 @@ module _ (limit : ℕ) where
   left_length g s [] q r h l = grind arith
   left_length g s (d ∷ ds) q r h l =
       let k = left_length g (and_so s d) ds q r.1 in
-      let j = moved_none g (and_so s d) ds q r.1 in grind (arith, nat_tests, length_tail)
+      let j = moved_none g (and_so s d) ds q r.1 in grind (arith, nat_tests)
 
   run_parts : (g : Game) (s : Earlier) (xs ys : List Deed) → Run limit g s (xs ++ ys) → Run limit g s xs × Run limit g (so_far s xs) ys
   run_parts g s [] ys r = (tt, r)

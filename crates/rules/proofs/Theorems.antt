@@ -40,9 +40,6 @@ beats_split S g xs ys n w h =
     let whole = run_beat S g (xs ++ ys) r in
     (ap (λ x. x.answer) u, ap (λ x. x.answer) second, ap (λ x. x.game) second ∙ c ∙ sym (ap (λ x. x.game) whole))
 
-swap_length : {A : Type 0} (xs ys : List A) (x y : A) → length (xs ++ (x ∷ y ∷ ys)) ≡ length (xs ++ (y ∷ x ∷ ys))
-swap_length xs ys x y = grind (arith, length-append)
-
 pub neighbours_exchange : NeighboursExchange
 neighbours_exchange S g xs ys x y n w h free =
     let d = deed S.level g in
@@ -52,8 +49,9 @@ neighbours_exchange S g xs ys x y n w h free =
     let o = map-append d xs (y ∷ x ∷ ys) in
     let (a, b) = exchange S.limit S.place g nothing (map d xs) (map d ys) (d x) (d y) f (subst (Run S.limit g nothing) m r) in
     let u = run_beat S g (xs ++ (y ∷ x ∷ ys)) (subst (Run S.limit g nothing) (sym o) a) in
-    let v = run_beat S g (xs ++ (x ∷ y ∷ ys)) r in (
-      ap (λ z. z.answer) u ∙ ap accepted (sym (e ∙ swap_length xs ys x y)),
+    let v = run_beat S g (xs ++ (x ∷ y ∷ ys)) r in
+    let l : length (xs ++ (x ∷ y ∷ ys)) ≡ length (xs ++ (y ∷ x ∷ ys)) = grind (arith, length-append) in (
+      ap (λ z. z.answer) u ∙ ap accepted (sym (e ∙ l)),
       ap (λ z. z.game) u ∙ ap (outcome S.place g) o ∙ alike_outcome S.place g _ _ b ∙ sym (ap (outcome S.place g) m) ∙ sym (ap (λ z. z.game) v),
     )
 

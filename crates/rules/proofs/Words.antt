@@ -1,11 +1,11 @@
 -- "Goes before" as a test and in words; the order of a list in words and as the exchanges need it.
-use Rattle.std.proofs.Common.{◌≡◌, ℕ, Bool, true, false, ◌&&◌, ◌⊎◌, List, [], ◌∷◌, map, sym, refl, ap, inl, inr, ⊎_elim, arith}
-use Rattle.std.proofs.lemmas.Bool.{both_ways, false_from_ne_true, false≢true, or_cases, or_left, or_right, and_parts, and_from, cases_Bool, eq-eqb}
+use Rattle.std.proofs.Common.{◌≡◌, ℕ, Bool, true, false, ◌⊎◌, List, [], ◌∷◌, map, sym, refl, ap, inl, inr, ⊎_elim, arith}
+use Rattle.std.proofs.lemmas.Bool.{both_ways, false_from_ne_true, false≢true, or_left, or_right, eq-eqb}
 use Rattle.std.proofs.lemmas.Bool.Decides.{nat_tests}
 use Rattle.level.specs.Syntax.{Level}
 use Rattle.rules.specs.declared.moves.Move.{Move}
 use Rattle.rules.specs.Game.{Game}
-use Rattle.rules.specs.Trace.{Event, reads, writes, sends}
+use Rattle.rules.specs.Trace.{Event}
 use Rattle.rules.specs.Deed.{Deed, deed, cell_read, cell_written, sent_to}
 use Rattle.rules.specs.Beat.{GoesBefore, Clashes, Earlier, and_so}
 use Rattle.rules.specs.Order.{Insert, here, there, Reordered, none, first, Among, now, past, Stands, leads, later}
@@ -15,23 +15,13 @@ use Rattle.rules.proofs.Swap.{reads_any, before, reads_none, Free, Keeps, Run}
 
 reads_some : (es : List Event) (w : ℕ → ℕ → Bool) → reads_any es w ≡ true → (p : ℕ) × (a : ℕ) × (cell_read es p a ≡ true) × (w p a ≡ true)
 reads_some [] w h = absurd (false≢true h)
-reads_some (reads p a ∷ es) w h = ⊎_elim
-    (λ t. (p, a, grind (arith, nat_tests), t))
-    (λ t. let (q, b, u, v) = reads_some es w t in (q, b, or_right _ _ u, v))
-    (or_cases (w p a) (reads_any es w) h)
-reads_some (writes p a v ∷ es) w h = reads_some es w h
-reads_some (sends q m ∷ es) w h = reads_some es w h
+reads_some (e ∷ es) w h = let k = reads_some es w in grind (arith, nat_tests)
 
 pub goes_before : (x y : Deed) → before x y ≡ true → GoesBefore x y
-goes_before x y h = ⊎_elim
-    (λ t. inl (reads_some x.events (cell_written y.events) t))
-    (λ t. inr (and_parts x.takes (sent_to y.events x.mover) t))
-    (or_cases (reads_any x.events (cell_written y.events)) (x.takes && sent_to y.events x.mover) h)
+goes_before x y h = grind (arith, reads_some)
 
 pub before_goes : (x y : Deed) → GoesBefore x y → before x y ≡ true
-before_goes x y (inl t) = or_left _ _ (⊎_elim (λ e. e) (λ e. absurd (both_ways (cell_written y.events t.0 t.1) (reads_none x.events (cell_written y.events) e t.0 t.1 t.2) t.3))
-    (cases_Bool (reads_any x.events (cell_written y.events))))
-before_goes x y (inr t) = or_right (reads_any x.events (cell_written y.events)) _ (and_from _ _ t.0 t.1)
+before_goes x y h = grind (arith, reads_none)
 
 stands_among : {A : Type 0} (x y : A) (l : List A) → Stands x y l → Among y l
 stands_among x y l (leads m) = past m
