@@ -4,11 +4,10 @@ use Rattle.mail.specs.declared.message.Message.{Message}
 use Rattle.mail.specs.Trays.{front}
 use Rattle.level.specs.Syntax.{Piece, Level}
 use Rattle.level.specs.Places.{Placed}
-use Rattle.rules.specs.declared.moves.Act.{Act}
 use Rattle.rules.specs.declared.moves.Move.{Move}
 use Rattle.rules.specs.Game.{Game}
 use Rattle.rules.specs.Trace.{Event, Trace, bind, unwanted}
-use Rattle.rules.specs.Deed.{transit, transit_by, transit_deed, discard_deed, act_deed, deed, cell_read}
+use Rattle.rules.specs.Deed.{transit, transit_by, transit_deed, discard_deed, deed, cell_read}
 use Rattle.rules.proofs.Steps.{Steps, of_unwanted, of_transit}
 use Rattle.rules.proofs.Split.{Frame}
 
@@ -62,15 +61,9 @@ module _ (L : Level) (p : ℕ) where
       → Agree g h (discard_deed L g p o).events → discard_deed L h p o ≡ discard_deed L g p o
   discard_frame g h o h1 h2 h3 = grind (arith, framed_unwanted)
 
-frame_act : (L : Level) (g h : Game) (p : ℕ) (m : Act) → h.states (act_deed L g p m).mover ≡ g.states (act_deed L g p m).mover
-    → ((act_deed L g p m).takes ≡ true → front (h.trays (act_deed L g p m).mover) ≡ front (g.trays (act_deed L g p m).mover))
-    → Agree g h (act_deed L g p m).events
-    → act_deed L h p m ≡ act_deed L g p m
-frame_act L g h p m h1 h2 h3 = grind (arith, transit_frame, discard_frame)
-
 -- a deed's mover is the piece of its move
 pub mover : (L : Level) (g : Game) (m : Move) → (deed L g m).mover ≡ m.piece
 mover L g m = grind arith
 
 pub frame : (L : Level) → Frame (deed L)
-frame L g h m e f k = frame_act L g h m.piece m.act e f k
+frame L g h m e f k = grind (arith, transit_frame, discard_frame)

@@ -2,11 +2,10 @@
 use Rattle.std.proofs.Common.{◌≡◌, ℕ, ◌+◌, ◌<◌, ◌≤◌, Bool, eqb, List, [], ◌∷◌, ◌++◌, map, length, ℤ, Some, None, Option, arith}
 use Rattle.mail.specs.declared.message.Message.{Message}
 use Rattle.mail.specs.Trays.{front}
-use Rattle.level.specs.Syntax.{Expr, Stmt, assign, store, send, Transition, Piece, Level}
+use Rattle.level.specs.Syntax.{Expr, Stmt, assign, store, send, Transition, Level}
 use Rattle.level.specs.Spelling.{size, statement}
 use Rattle.level.specs.Sound.{Each, SoundStmt, SoundTransition, Sound, most_pieces}
 use Rattle.level.specs.Places.{Placed, effect_place, placed_at}
-use Rattle.level.specs.Tables.{nth}
 use Rattle.rules.specs.declared.moves.Act.{Act}
 use Rattle.rules.specs.declared.moves.Act.TheVariants.{Discard}
 use Rattle.rules.specs.declared.moves.Act.TheVariants as act
@@ -15,7 +14,7 @@ use Rattle.rules.specs.Game.{Game}
 use Rattle.rules.specs.Names.{piece_named, cell_named, transition_of}
 use Rattle.rules.specs.Trace.{Event, reads, writes, sends, Trace, bind, Own, receipts, receive, evaluate, evaluate_all, run, run_all, guarded}
 use Rattle.rules.specs.Checks.{pass}
-use Rattle.rules.specs.Deed.{transit, transit_deed, discard_deed, act_deed, deed}
+use Rattle.rules.specs.Deed.{transit, transit_deed, act_deed, deed}
 use Rattle.rules.specs.Beat.{changes_of, parcels_of, changes, parcels}
 use Rattle.rules.proofs.Trails.{weight, weight_evaluate, weight_evaluate_all, weight_discard, each_append, Maybe, nth_in, transition_has}
 
@@ -100,12 +99,9 @@ module _ (L : Level) (sound : Sound L) (g : Game) where
   ranged_of p (Some t) h = let f = few_pieces L sound in let i = h.1 in
       ranged_transit L f g p (omega arith) t (eqb t.transition.signal 0) (front (g.trays p)) h.0
 
-  ranged_away : (p : ℕ) (o : Option Piece) → Ranged (discard_deed L g p o).events
-  ranged_away p o = let h = weight_discard 1 1 L g p in grind (arith, quiet)
-
   ranged_act : (p : ℕ) (a : Act) → Ranged (act_deed L g p a).events
   ranged_act p (act.Transition n) = ranged_of p (transition_of L p n) (transition_has L Narrows (narrows L.signals) sound p n)
-  ranged_act p Discard = ranged_away p (nth L.pieces p)
+  ranged_act p Discard = let h = weight_discard 1 1 L g p in grind (arith, quiet)
 
 pub ranged : (L : Level) → Sound L → (g : Game) (m : Move) → Ranged (deed L g m).events
 ranged L sound g m = ranged_act L sound g m.piece m.act
