@@ -87,7 +87,7 @@ module _ (L : Level) (g : Game) where
 
   with_earlier : (s : Earlier) (P : Move → Type 0) (d : Deed) → Done s P → ((d.takes ≡ true) × (s.sent d.mover ≡ true)) ⊎ Met s d.events
       → (x : Move) × P x × Clashes (deed L g x) d
-  with_earlier s P d h1 h2 = grind arith
+  with_earlier s P d h e = grind arith
 
   -- the move that fails, and one before it, in the list or earlier, with which it clashes
   abbrev Found : (Move → Type 0) → List Move → MoveFault → Type 0

@@ -30,7 +30,7 @@ told_needing c at o k = grind arith
 
 pub told_bind : {A B : Type 0} (t : Trace A) (k : A → Trace B) (o : Option A) (j : A → Option B)
     → told t.out ≡ o → ((x : A) → told (k x).out ≡ j x) → told (bind t k).out ≡ then o j
-told_bind t k o j h1 h2 = grind (arith, then_same)
+told_bind t k o j h e = grind (arith, then_same)
 
 -- the value of a cell: the own one, else the game's
 abbrev laid : Option ℤ → ℤ → ℤ
@@ -45,7 +45,7 @@ told_seen : (g : Game) (q a : ℕ) (o : Option ℤ) → told (seen g q a o).out 
 told_seen g q a o = grind arith
 
 lay_set : (g c : Game) (o : Own) (p a : ℕ) (v : ℤ) → Lay g o c → Lay g (over o p a v) (number_set c p a v)
-lay_set g c o p a v h1 = grind arith
+lay_set g c o p a v h = grind arith
 
 pub lay_filled : (g c : Game) (o : Own) (p : ℕ) (l : List ℕ) (m : Message) → Lay g o c → Lay g (laid_over p (receipts l m) o) (filled c p l m)
 lay_filled g c o p [] m h = h
@@ -76,16 +76,16 @@ module _ (S : Setting) where
   replay_only c es h = ap (replay c) (sym (append-nil es)) ∙ replay_past c es [] h
 
   through_onward : {A B : Type 0} (c : Game) (es : List Event) (o : Result A Why) (k : A → Trace B) → weight 1 1 es ≤ 0 → through c (onward es o k) ≡ then (told o) (λ x. through c (k x))
-  through_onward c es o k h1 = grind (arith, replay_past, replay_only)
+  through_onward c es o k h = grind (arith, replay_past, replay_only)
 
   -- an evaluation changes nothing; what follows goes on with its value
   through_bind : {A B : Type 0} (c : Game) (t : Trace A) (k : A → Trace B) (o : Option A) (j : A → Option Game)
       → weight 1 1 t.events ≤ 0 → told t.out ≡ o → ((x : A) → through c (k x) ≡ j x) → through c (bind t k) ≡ then o j
-  through_bind c t k o j h1 h2 h3 = grind (arith, then_same, through_onward)
+  through_bind c t k o j h e f = grind (arith, then_same, through_onward)
 
   through_needing : {A B C : Type 0} (c : Game) (w : Cause) (at : ℕ) (o : Option A) (f : A → Trace B) (k : B → Trace C) (j : A → Option Game)
       → ((x : A) → through c (bind (f x) k) ≡ j x) → through c (bind (needing w at o f) k) ≡ then o j
-  through_needing c w at o f k j h1 = grind arith
+  through_needing c w at o f k j h = grind arith
 
   module _ (g : Game) (p : ℕ) where
     module _ (c : Game) (o : Own) (lay : Lay g o c) where

@@ -54,12 +54,12 @@ module _ (L : Level) (p : ℕ) where
   transit_frame : (g h : Game) (o : Option Placed) → h.states p ≡ g.states p
       → ((transit_deed L g p o).takes ≡ true → front (h.trays p) ≡ front (g.trays p))
       → Agree g h (transit_deed L g p o).events → transit_deed L h p o ≡ transit_deed L g p o
-  transit_frame g h o h1 h2 h3 = grind (arith, transit_same)
+  transit_frame g h o e f u = grind (arith, transit_same)
 
   discard_frame : (g h : Game) (o : Option Piece) → h.states p ≡ g.states p
       → ((discard_deed L g p o).takes ≡ true → front (h.trays p) ≡ front (g.trays p))
       → Agree g h (discard_deed L g p o).events → discard_deed L h p o ≡ discard_deed L g p o
-  discard_frame g h o h1 h2 h3 = grind (arith, framed_unwanted)
+  discard_frame g h o e f u = grind (arith, framed_unwanted)
 
 -- a deed's mover is the piece of its move
 pub mover : (L : Level) (g : Game) (m : Move) → (deed L g m).mover ≡ m.piece

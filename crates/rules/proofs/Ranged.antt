@@ -82,7 +82,7 @@ module _ (L : Level) (few : length L.pieces ≤ 32) where
     ranged_guarded t o n = ranged_evaluate o t.guard t.transition.guard _ (λ v. let k = ranged_run_all (effect_place t) t.transition.effect o n.1 in grind arith)
 
     ranged_receive : (l : List ℕ) (m : Message) (o : Own) → Each (λ a. a < 8) l → Ranged (receive p (receipts l m) o).events
-    ranged_receive l m o h1 = grind arith
+    ranged_receive l m o h = grind arith
 
     ranged_transit : (t : Placed) (b : Bool) (m : Option Message) → Narrows t → Ranged (transit L g p t b m).events
     ranged_transit t b m n =

@@ -78,7 +78,7 @@ module _ (S : Setting) where
   struck_accepted g ms c n h = grind arith
 
   accepted_listed : (g : Game) (t : Lent) (ms : List Move) (n : ℕ) → (lent S g t (listed S g (Some ms))).answer ≡ accepted n → Accepted g t ms n
-  accepted_listed g t ms n h1 = grind arith
+  accepted_listed g t ms n h = grind arith
 
   accepted_strike : (g : Game) (t : Lent) (bytes : List ℕ) (ms : List Move) (n : ℕ)
       → moves_of bytes ≡ Some ms → (call S g (strike t bytes)).answer ≡ accepted n → Accepted g t ms n
@@ -130,7 +130,7 @@ module _ (S : Setting) where
   within_tapped g p m c w h q = let k = w q in grind (arith, put_length)
 
   within_listed : (g : Game) (o : Option (List Move)) → Within S.limit g → Within S.limit (listed S g o).game
-  within_listed g o h1 = grind (arith, within_struck)
+  within_listed g o h = grind (arith, within_struck)
 
   pub within_call : (g : Game) (c : Call) → Within S.limit g → Within S.limit (call S g c).game
   within_call g (tap p m) w = within_tapped g p m _ w refl

@@ -34,26 +34,30 @@ module _ (S : Setting) where
   abbrev ran : Game → List Event → Game
   ran c es = record { states = c.states; numbers = changed c.numbers (changes_of es); trays = delivered S.place c.trays (parcels_of es) }
 
+  -- the configuration with one message more
+  abbrev with_mail : Game → ℕ → Message → Game
+  with_mail c q m = record { states = c.states; numbers = c.numbers; trays = put_in S.place c.trays q m }
+
   module _ (g : Game) (d : Deed) where
     -- the trays of c are as long as the beat's test reckons, n messages having been sent
     abbrev Sized : Game → (ℕ → ℕ) → Type 0
     Sized c n = (q : ℕ) → length (c.trays q) ≡ left_in g q (takes_from d q) + n q
 
     sized_put : (c : Game) (n : ℕ → ℕ) (q : ℕ) (m : Message) → Sized c n
-        → Sized (record { states = c.states; numbers = c.numbers; trays = put_in S.place c.trays q m }) (one_more n q)
-    sized_put c n q m h1 = grind (arith, put_at, put_length)
+        → Sized (with_mail c q m) (one_more n q)
+    sized_put c n q m h = grind (arith, put_at, put_length)
 
     pass_replay : (n : ℕ → ℕ) (es : List Event) (c : Game) → Sized c n → along S.limit g nothing d n es ≡ pass → (replay S c es ≡ Some (ran c es)) × (d.ended ≡ pass)
     pass_replay n [] c z h = (refl, h)
     pass_replay n (reads p a ∷ es) c z h = pass_replay n es c z h
     pass_replay n (writes p a v ∷ es) c z h = pass_replay n es (number_set c p a v) z h
-    pass_replay n (sends q m ∷ es) c z h = let j = z q in let k = pass_replay (one_more n q) es (record { states = c.states; numbers = c.numbers; trays = put_in S.place c.trays q m }) (sized_put c n q m z) in grind arith
+    pass_replay n (sends q m ∷ es) c z h = let j = z q in let k = pass_replay (one_more n q) es (with_mail c q m) (sized_put c n q m z) in grind arith
 
     replay_pass : (n : ℕ → ℕ) (es : List Event) (c x : Game) → Sized c n → replay S c es ≡ Some x → d.ended ≡ pass → (along S.limit g nothing d n es ≡ pass) × (x ≡ ran c es)
     replay_pass n [] c x z h e = (e, cc)
     replay_pass n (reads p a ∷ es) c x z h e = replay_pass n es c x z h e
     replay_pass n (writes p a v ∷ es) c x z h e = replay_pass n es (number_set c p a v) x z h e
-    replay_pass n (sends q m ∷ es) c x z h e = let j = z q in let k = replay_pass (one_more n q) es (record { states = c.states; numbers = c.numbers; trays = put_in S.place c.trays q m }) x (sized_put c n q m z) in grind arith
+    replay_pass n (sends q m ∷ es) c x z h e = let j = z q in let k = replay_pass (one_more n q) es (with_mail c q m) x (sized_put c n q m z) in grind arith
 
     -- the configuration in which the move has taken what it takes
     abbrev begun : Game

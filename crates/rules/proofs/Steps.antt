@@ -13,6 +13,7 @@ use Rattle.rules.specs.Names.{piece_named, cell_named}
 use Rattle.rules.specs.Trace.{Trace, give, halt, bind, needing, Own, no_writes, seen, write, post, Receipt, receipts, receive, laid_over, evaluate, evaluate_all, run, run_all, guarded, unwanted}
 use Rattle.rules.specs.Deed.{transit}
 
+-- P holds of each step: a value given, a stumble, a guard that stops, a look at a cell, and one trace after another
 pub record Steps (P : (A : Type 0) → (Game → Trace A) → Type 0) : Type 1 where
   pub gives : {A : Type 0} (x : A) → P A (λ g. give x)
   pub stumbles : {A : Type 0} (s : Stumble) → P A (λ g. halt (Stumbles s))

@@ -25,10 +25,10 @@ depends_on_reads L g h m e f k =
 module _ (S : Setting) (g : Game) where
   -- an accepted beat is a run of deeds that pass, and the other way round
   beat_run : (ms : List Move) (n : ℕ) → Within S.limit g → (beat S g ms).answer ≡ accepted n → Run S.limit g nothing (map (deed S.level g) ms) × (n ≡ length ms)
-  beat_run ms n h1 h2 = grind (arith, passed_run)
+  beat_run ms n h e = grind (arith, passed_run)
 
   run_beat : (ms : List Move) → Run S.limit g nothing (map (deed S.level g) ms) → beat S g ms ≡ struck S g ms pass
-  run_beat ms h1 = grind (arith, run_passed)
+  run_beat ms h = grind (arith, run_passed)
 
 pub beats_split : BeatsSplit
 beats_split S g xs ys n w h =

@@ -168,7 +168,7 @@ module _ (S : Setting) (sound : Sound S.level) (g : Game) where
   Fit a = (length a.changes ≤ 160) × (length a.parcels ≤ 128)
 
   fit_struck : (ms : List Move) (c : Check MoveFault) → length ms ≤ 16 → Fit (struck S g ms c)
-  fit_struck ms c h1 = grind (arith, changes_fit, parcels_fit)
+  fit_struck ms c h = grind (arith, changes_fit, parcels_fit)
 
   fit_listed : (o : Option (List Move)) → Fit (listed S g o)
   fit_listed None = grind arith
