@@ -8,7 +8,7 @@ use Rattle.level.specs.Spelling.{statement}
 use Rattle.level.specs.Syntax.{Stmt}
 use Rattle.level.proofs.Arms.{effect_past, effect_none, effect_full, effect_more}
 use Rattle.level.proofs.Legible.{bytes_from, stmt_rest}
-use Rattle.mail.specs.Trays.{Trays}
+use Rattle.mail.specs.declared.Mail.{Ghosts}
 use Rattle.rules.specs.declared.fault.Why.{Why}
 use Rattle.evaluator.specs.declared.trail.Trails.{Trails}
 use Rattle.evaluator.specs.declared.turn.Turn.{Turn}
@@ -20,9 +20,9 @@ use Rattle.evaluator.proofs.Reckoned.{not_bad}
 use Rattle.evaluator.proofs.Stated.{first}
 
 -- the statements of an effect, of which n may still come
-module _ {M : Type 0} (trays : M → Trays) (limit : ℕ) (turn : Turn M) (lent : Trails) (n i : ℕ) where
+module _ {M : Type 0} (mail : Ghosts M) (turn : Turn M) (lent : Trails) (n i : ℕ) where
   abbrev A : Around
-  A = around trays limit turn (places lent)
+  A = around mail turn (places lent)
 
   abbrev t : Lists
   t = lists lent
@@ -41,7 +41,7 @@ module _ {M : Type 0} (trays : M → Trays) (limit : ℕ) (turn : Turn M) (lent 
     a_byte = ⊎_elim (λ k. absurd (not_bad (F n i) _ _ (effect_past A.level.signals 8 (drop i code) n k) h)) (λ k. k) (cases_lt (length (drop i code)) 1)
 
     lead : (b : ℕ) → get_or code i 0 ≡ b → at (drop i code) 0 ≡ b
-    lead b e = first trays limit turn lent i b e
+    lead b e = first mail turn lent i b e
 
     module _ (z : get_or code i 0 ≡ 0 → ⊥) where
       nonzero : at (drop i code) 0 ≡ 0 → ⊥

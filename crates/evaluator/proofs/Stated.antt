@@ -3,7 +3,7 @@ use Rattle.std.proofs.Common.{◌≡◌, ℕ, ◌+◌, ◌<◌, ◌≤◌, true,
 use Rattle.std.proofs.lemmas.List.{get_or-drop, drop-drop}
 use Rattle.std.proofs.lemmas.Bool.{cases_lt}
 use Rattle.mail.specs.declared.message.Message.{Message}
-use Rattle.mail.specs.Trays.{Trays}
+use Rattle.mail.specs.declared.Mail.{Ghosts}
 use Rattle.level.specs.Law.{Bytes}
 use Rattle.level.specs.Reading.{Read, got, bad, then, at, known, order, read_expr, read_exprs, read_order}
 use Rattle.level.specs.Sound.{deepest, parameters}
@@ -30,9 +30,9 @@ use Rattle.evaluator.proofs.Following.{follow_follow, follow_same, passed_on, ha
 use Rattle.evaluator.proofs.Meeting.{value_met, values_met}
 use Rattle.evaluator.proofs.Reckoned.{not_bad, V, after, ends}
 
-module _ {M : Type 0} (trays : M → Trays) (limit : ℕ) (u : Turn M) (lent : Trails) where
+module _ {M : Type 0} (mail : Ghosts M) (u : Turn M) (lent : Trails) where
   abbrev pub A : Around
-  A = around trays limit u (places lent)
+  A = around mail u (places lent)
 
   abbrev t : Lists
   t = lists lent

@@ -1,7 +1,7 @@
 -- A transition: what it receives, its guard, its effect.
 use Rattle.std.proofs.Common.{◌≡◌, ℕ, ◌+◌, true, false, cond, List, [], map, take, drop, ℤ, Some, None, Ok, Err, Option, Result, sym, refl, ap, ◌∙◌}
 use Rattle.mail.specs.declared.message.Message.{Message}
-use Rattle.mail.specs.Trays.{Trays}
+use Rattle.mail.specs.declared.Mail.{Ghosts}
 use Rattle.level.specs.declared.entry.TransitionEntry.{TransitionEntry}
 use Rattle.level.specs.Entries.{transition_entry}
 use Rattle.level.specs.Levels.{meaning}
@@ -26,10 +26,10 @@ use Rattle.evaluator.specs.Trails.{Lists}
 use Rattle.evaluator.proofs.Following.{follow_follow, halted, gone}
 use Rattle.evaluator.proofs.Trying.{x, is_there, is_entry, guard_read, effect_read, trial_is}
 
-module _ {M : Type 0} (trays : M → Trays) (limit : ℕ) (u : Turn M) (places : Lent) (n : ℕ) (found : TransitionEntry)
+module _ {M : Type 0} (mail : Ghosts M) (u : Turn M) (places : Lent) (n : ℕ) (found : TransitionEntry)
     (h : Some found ≡ nth (map transition_entry (placed (meaning u.level.now))) n) where
   abbrev A : Around
-  A = around trays limit u places
+  A = around mail u places
 
   abbrev X : Placed
   X = x u [] n found h

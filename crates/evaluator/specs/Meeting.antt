@@ -1,8 +1,8 @@
 -- What guards and effects do to the trails, met by what earlier moves left in them. This is scaffolding between the rules and the
 -- code: no public promise speaks of it.
 use Rattle.std.specs.Prelude.{ℕ, ◌+◌, ◌-◌, cond, List, [], ◌∷◌, ◌++◌, length, take, drop, is_some, Some, None, Ok, Err, Option, Result, ◌==◌, nat_lt}
+use Rattle.mail.specs.declared.Mail.{Ghosts}
 use Rattle.mail.specs.declared.message.Message.{Message}
-use Rattle.mail.specs.Trays.{Trays}
 use Rattle.level.specs.Levels.{code, meaning}
 use Rattle.level.specs.Places.{Placed, effect_place}
 use Rattle.level.specs.Reading.{Read, got, bad}
@@ -39,9 +39,9 @@ send_to left limit mark n ps c =
     cond (nat_lt 0 (parcels_to (take mark ps) c.piece)) (Err Clash)
     (cond (left c.piece + parcels_to (drop mark ps) c.piece == limit) (Err TrayFull) (Ok (pushed n ps c)))
 
--- how many messages a tray keeps of those before the beat
-abbrev pub left_of : {M : Type 0} → (M → Trays) → Turn M → ℕ → ℕ
-left_of trays t q = length (trays t.mail.now q) - cond (took_in t.listed.now q) 1 0
+-- how many messages a tray keeps of those before the beat. `mail` is what the trait says of that kind of mail
+abbrev pub left_of : {M : Type 0} → Ghosts M → Turn M → ℕ → ℕ
+left_of mail t q = length (mail.trays t.mail.now q) - cond (took_in t.listed.now q) 1 0
 
 -- what a move sees, with changes of earlier moves and its own
 abbrev pub sight_with : {M : Type 0} → Turn M → List Change → List Change → Sight
@@ -79,15 +79,15 @@ pub record Around : Type 0 where
   pub limit : ℕ
   pub places : Lent
 
-abbrev pub around : {M : Type 0} → (M → Trays) → ℕ → Turn M → Lent → Around
-around trays limit t places = record {
+abbrev pub around : {M : Type 0} → Ghosts M → Turn M → Lent → Around
+around mail t places = record {
   level = meaning t.level.now;
   board = board_of t.table.now;
   mover = t.mover;
   written = t.written;
   sent = t.sent;
-  left = left_of trays t;
-  limit = limit;
+  left = left_of mail t;
+  limit = mail.LIMIT;
   places = places;
 }
 
@@ -153,8 +153,8 @@ module _ (A : Around) where
   transiting_by t (Some x) m = transiting t x m
 
 -- the statement that stands at a place of a turn's level, on the trails as they are
-abbrev pub stepped : {M : Type 0} → (M → Trays) → ℕ → Turn M → Trails → ℕ → Result (Lists × ℕ) Why
-stepped trays limit t lent i = step_at (around trays limit t (places lent)) (lists lent) i (statement_at t.level.now i)
+abbrev pub stepped : {M : Type 0} → Ghosts M → Turn M → Trails → ℕ → Result (Lists × ℕ) Why
+stepped mail t lent i = step_at (around mail t (places lent)) (lists lent) i (statement_at t.level.now i)
 
 -- the message of a signal, with the values of the expressions that stand at a place, and the place after them
 abbrev pub message_at : Sight → ℕ → ℕ → Read (List Expr) → Result (Message × ℕ) Why

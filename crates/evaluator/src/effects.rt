@@ -66,7 +66,7 @@ impl<M: Mail> Turn<'_, M> {
     fn assign(&self, at: usize, trails: &mut Trails) -> Result<usize, Why>
         requires legible { legible (statement_at self.now.level.now at) ≡ true }
         requires byte { slice_index (code self.now.level.now) at ≡ 0x20 }
-        ensures lists { with_lists result (lists trails.new) ≡ stepped M.Mail.trays M.Mail.LIMIT self.now trails.old at }
+        ensures lists { with_lists result (lists trails.new) ≡ stepped M.Mail self.now trails.old at }
         ensures kept { KeptBoth trails.old trails.new }
     {
         let number = self.level.code()[at + 1];
@@ -79,7 +79,7 @@ impl<M: Mail> Turn<'_, M> {
     fn store(&self, at: usize, trails: &mut Trails) -> Result<usize, Why>
         requires legible { legible (statement_at self.now.level.now at) ≡ true }
         requires byte { slice_index (code self.now.level.now) at ≡ 0x21 }
-        ensures lists { with_lists result (lists trails.new) ≡ stepped M.Mail.trays M.Mail.LIMIT self.now trails.old at }
+        ensures lists { with_lists result (lists trails.new) ≡ stepped M.Mail self.now trails.old at }
         ensures kept { KeptBoth trails.old trails.new }
     {
         let number = self.level.code()[at + 1];
@@ -101,7 +101,7 @@ impl<M: Mail> Turn<'_, M> {
     fn post(&self, at: usize, trails: &mut Trails) -> Result<usize, Why>
         requires legible { legible (statement_at self.now.level.now at) ≡ true }
         requires byte { slice_index (code self.now.level.now) at ≡ 0x22 }
-        ensures lists { with_lists result (lists trails.new) ≡ stepped M.Mail.trays M.Mail.LIMIT self.now trails.old at }
+        ensures lists { with_lists result (lists trails.new) ≡ stepped M.Mail self.now trails.old at }
         ensures kept { KeptBoth trails.old trails.new }
     {
         let signal = self.level.code()[at + 1];
@@ -115,7 +115,7 @@ impl<M: Mail> Turn<'_, M> {
     // The statement at a place, and the place after it.
     fn statement(&self, at: usize, trails: &mut Trails) -> Result<usize, Why>
         requires { legible (statement_at self.now.level.now at) ≡ true }
-        ensures lists { with_lists result (lists trails.new) ≡ stepped M.Mail.trays M.Mail.LIMIT self.now trails.old at }
+        ensures lists { with_lists result (lists trails.new) ≡ stepped M.Mail self.now trails.old at }
         ensures kept { KeptBoth trails.old trails.new }
     {
         match self.level.code()[at] {
@@ -129,7 +129,7 @@ impl<M: Mail> Turn<'_, M> {
     // The statements of an effect from a place on, of which `left` may still come.
     fn statements(&self, at: usize, left: u8, trails: &mut Trails) -> Result<(), Why>
         requires { legible (effect_at self.now.level.now left at) ≡ true }
-        ensures lists { lists_or result (lists trails.new) ≡ steps_at (around M.Mail.trays M.Mail.LIMIT self.now (places trails.old)) (lists trails.old) at (effect_at self.now.level.now left at) }
+        ensures lists { lists_or result (lists trails.new) ≡ steps_at (around M.Mail self.now (places trails.old)) (lists trails.old) at (effect_at self.now.level.now left at) }
         ensures kept { KeptBoth trails.old trails.new }
     {
         if self.level.code()[at] == 0x00 {
@@ -142,7 +142,7 @@ impl<M: Mail> Turn<'_, M> {
     // The whole effect at a place.
     pub(crate) fn effect(&self, at: usize, trails: &mut Trails) -> Result<(), Why>
         requires { legible (effect_at self.now.level.now most_statements at) ≡ true }
-        ensures lists { lists_or result (lists trails.new) ≡ steps_at (around M.Mail.trays M.Mail.LIMIT self.now (places trails.old)) (lists trails.old) at (effect_at self.now.level.now most_statements at) }
+        ensures lists { lists_or result (lists trails.new) ≡ steps_at (around M.Mail self.now (places trails.old)) (lists trails.old) at (effect_at self.now.level.now most_statements at) }
         ensures kept { KeptBoth trails.old trails.new }
     {
         self.statements(at, 8, trails)

@@ -31,7 +31,7 @@ fn wants(found: TransitionEntry, kind: u8, state: u8, message: Message) -> bool
 impl<M: Mail> Turn<'_, M> {
     // A number of the mover becomes a number of the message, if one receives it.
     fn receive(&self, into: Option<u8>, value: i32, trails: &mut Trails) -> Result<(), Why>
-        ensures lists { lists_or result (lists trails.new) ≡ receiving (around M.Mail.trays M.Mail.LIMIT self.now (places trails.old)) (lists trails.old) (numbers_of into value) }
+        ensures lists { lists_or result (lists trails.new) ≡ receiving (around M.Mail self.now (places trails.old)) (lists trails.old) (numbers_of into value) }
         ensures kept { KeptBoth trails.old trails.new }
     {
         let Some(number) = into else {
@@ -47,7 +47,7 @@ impl<M: Mail> Turn<'_, M> {
         message: Option<Message>,
         trails: &mut Trails,
     ) -> Result<(), Why>
-        ensures lists { lists_or result (lists trails.new) ≡ receiving (around M.Mail.trays M.Mail.LIMIT self.now (places trails.old)) (lists trails.old) (trial_of found message) }
+        ensures lists { lists_or result (lists trails.new) ≡ receiving (around M.Mail self.now (places trails.old)) (lists trails.old) (trial_of found message) }
         ensures kept { KeptBoth trails.old trails.new }
     {
         let Some(message) = message else {
@@ -127,7 +127,7 @@ impl<M: Mail> Turn<'_, M> {
         message: Option<Message>,
         trails: &mut Trails,
     ) -> Result<(), Why>
-        ensures lists { lists_or result (lists trails.new) ≡ transiting_by (around M.Mail.trays M.Mail.LIMIT self.now (places trails.old)) (lists trails.old) (nth (placed (meaning self.now.level.now)) number) message }
+        ensures lists { lists_or result (lists trails.new) ≡ transiting_by (around M.Mail self.now (places trails.old)) (lists trails.old) (nth (placed (meaning self.now.level.now)) number) message }
         ensures kept { KeptBoth trails.old trails.new }
     {
         let Some(found) = self.level.transition(number) else {

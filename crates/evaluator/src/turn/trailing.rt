@@ -52,7 +52,7 @@ impl<M: Mail> Turn<'_, M> {
 
     // A change more, unless an earlier move has written the cell. Full trails hold what any beat writes, so that there is a place.
     pub fn write(&self, change: Change, trails: &mut Trails) -> Result<(), Why>
-        ensures lists { lists_or result (lists trails.new) ≡ meet (around M.Mail.trays M.Mail.LIMIT self.now (places trails.old)) (lists trails.old) (writes change.piece change.number change.value) }
+        ensures lists { lists_or result (lists trails.new) ≡ meet (around M.Mail self.now (places trails.old)) (lists trails.old) (writes change.piece change.number change.value) }
         ensures parcels { held trails.new.parcels ≡ held trails.old.parcels }
         ensures kept { KeptBoth trails.old trails.new }
     {
@@ -66,7 +66,7 @@ impl<M: Mail> Turn<'_, M> {
 
     // How many messages a tray keeps of those before the beat.
     fn left(&self, piece: u8) -> usize
-        ensures answer { result ≡ left_of M.Mail.trays self.now piece }
+        ensures answer { result ≡ left_of M.Mail self.now piece }
         ensures few { result ≤ 8 }
     {
         let taken = self.listed.has_taken(piece) as usize;
@@ -75,7 +75,7 @@ impl<M: Mail> Turn<'_, M> {
 
     // A parcel more, unless an earlier move has sent to the piece or its tray is full.
     pub fn send(&self, parcel: Parcel, trails: &mut Trails) -> Result<(), Why>
-        ensures lists { lists_or result (lists trails.new) ≡ meet (around M.Mail.trays M.Mail.LIMIT self.now (places trails.old)) (lists trails.old) (sends parcel.piece parcel.message) }
+        ensures lists { lists_or result (lists trails.new) ≡ meet (around M.Mail self.now (places trails.old)) (lists trails.old) (sends parcel.piece parcel.message) }
         ensures changes { held trails.new.changes ≡ held trails.old.changes }
         ensures kept { KeptBoth trails.old trails.new }
     {

@@ -15,13 +15,13 @@ expression-requires g c = guard_legible c.args.self.now (held c.args.trails.now.
 
 pub returns-in_err-value-clause-lists : goal.returns-in_err-value-clause-lists
 returns-in_err-value-clause-lists g c =
-    refused_or _ _ _ _ c.from_residual-in_err-value.ensures.1 (transit_stops g.M.Mail.trays g.M.Mail.LIMIT c.args.self.now (places c.args.trails.now) c.args.number c.in-Some.found c.in-Some.ensures (lists c.args.trails.now) c.args.message (lists c.received.new.trails) c.in_ok-received.ensures.lists _ c.in_err-value.ensures)
+    refused_or _ _ _ _ c.from_residual-in_err-value.ensures.1 (transit_stops g.M.Mail c.args.self.now (places c.args.trails.now) c.args.number c.in-Some.found c.in-Some.ensures (lists c.args.trails.now) c.args.message (lists c.received.new.trails) c.in_ok-received.ensures.lists _ c.in_err-value.ensures)
 
 pub returns-then-not-holds-clause-lists : goal.returns-then-not-holds-clause-lists
 returns-then-not-holds-clause-lists g c =
     let f : SFits w32 c.in_ok-value.value = search rules in
     let z = simp to_z-of_z at c.if-not-holds.ensures in
-    transit_fails g.M.Mail.trays g.M.Mail.LIMIT c.args.self.now (places c.args.trails.now) c.args.number c.in-Some.found c.in-Some.ensures (lists c.args.trails.now) c.args.message (lists c.received.new.trails) c.in_ok-received.ensures.lists c.in_ok-value.value _ c.in_ok-value.ensures (sym z)
+    transit_fails g.M.Mail c.args.self.now (places c.args.trails.now) c.args.number c.in-Some.found c.in-Some.ensures (lists c.args.trails.now) c.args.message (lists c.received.new.trails) c.in_ok-received.ensures.lists c.in_ok-value.value _ c.in_ok-value.ensures (sym z)
 
 pub effect-requires : goal.effect-requires
 effect-requires g c = effect_legible c.args.self.now (held c.args.trails.now.changes) c.args.number c.in-Some.found c.in-Some.ensures
@@ -32,5 +32,5 @@ returns-clause-lists g c =
     let z = simp to_z-of_z at c.if-not-holds.ensures in
     let v = c.received.new.trails in
     c.effect.ensures.lists
-    ∙ ap (λ p. steps_at (around g.M.Mail.trays g.M.Mail.LIMIT c.args.self.now p) (lists v) c.in-Some.found.effect (effect_at c.args.self.now.level.now most_statements c.in-Some.found.effect)) (places_kept c.args.trails.now v c.received.ensures.kept)
-    ∙ transit_goes g.M.Mail.trays g.M.Mail.LIMIT c.args.self.now (places c.args.trails.now) c.args.number c.in-Some.found c.in-Some.ensures (lists c.args.trails.now) c.args.message (lists c.received.new.trails) c.in_ok-received.ensures.lists c.in_ok-value.value _ c.in_ok-value.ensures (sym z)
+    ∙ ap (λ p. steps_at (around g.M.Mail c.args.self.now p) (lists v) c.in-Some.found.effect (effect_at c.args.self.now.level.now most_statements c.in-Some.found.effect)) (places_kept c.args.trails.now v c.received.ensures.kept)
+    ∙ transit_goes g.M.Mail c.args.self.now (places c.args.trails.now) c.args.number c.in-Some.found c.in-Some.ensures (lists c.args.trails.now) c.args.message (lists c.received.new.trails) c.in_ok-received.ensures.lists c.in_ok-value.value _ c.in_ok-value.ensures (sym z)
