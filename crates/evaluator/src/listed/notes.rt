@@ -1,6 +1,6 @@
 // Moves noted, and looked up.
 ghost use Rattle.std.specs.Prelude.{◌≡◌, false, ◌&&◌, ◌||◌};
-ghost use Rattle.evaluator.specs.Listing.{moved_in, noted, took_in};
+ghost use Rattle.evaluator.specs.Listing.{moved_in, note_of, noted, took_in};
 
 use super::{Listed, Note};
 
@@ -15,20 +15,25 @@ impl Listed {
         }
     }
 
+    // The note of a piece; a piece over 31 is never noted.
+    fn note_of(&self, piece: u8) -> Note
+        ensures { result ≡ note_of self.now piece }
+    {
+        self.notes.get(piece as usize).copied().unwrap_or_default()
+    }
+
     // Whether a piece has moved.
     pub fn has_moved(&self, piece: u8) -> bool
         ensures { result ≡ moved_in self.now piece }
     {
-        self.notes
-            .get(piece as usize)
-            .is_some_and(|note| note.moved)
+        self.note_of(piece).moved
     }
 
     // Whether a message was taken from its tray.
     pub fn has_taken(&self, piece: u8) -> bool
         ensures { result ≡ took_in self.now piece }
     {
-        self.notes.get(piece as usize).is_some_and(|note| note.took)
+        self.note_of(piece).took
     }
 
     // One move more, of this piece, which may take a message. A piece over 31 is none. The note is indexed after a test, as a row is
