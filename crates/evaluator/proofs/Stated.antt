@@ -142,15 +142,15 @@ module _ {M : Type 0} (mail : Ghosts M) (u : Turn M) (lent : Trails) where
         pub assigned : step_at A t i Q ≡ follow (value_at S (i + 2) (R (i + 2))) (λ x. entered x.1 (writes A.mover a x.0))
         assigned = ap (step_at A t i) is ∙ go (R (i + 2)) assign_reads
 
-        pub assign_halts : (w : Why) → Err w ≡ value_at S (i + 2) (R (i + 2)) → Err w ≡ step_at A t i Q
-        assign_halts w e = halted _ _ _ assigned w e
+        pub assign_halts : {w : Why} → Err w ≡ value_at S (i + 2) (R (i + 2)) → Err w ≡ step_at A t i Q
+        assign_halts e = halted _ _ _ assigned _ e
 
-        module _ (v : ℤ) (n : ℕ) (e : Ok (v, n) ≡ value_at S (i + 2) (R (i + 2))) where
-          pub assign_refused : (w : Why) → Err w ≡ meet A t (writes A.mover a v) → Err w ≡ step_at A t i Q
-          assign_refused w f = halted _ _ _ (gone _ _ _ assigned (v, n) e) w f
+        module _ {v : ℤ} {n : ℕ} (e : Ok (v, n) ≡ value_at S (i + 2) (R (i + 2))) where
+          pub assign_refused : {w : Why} → Err w ≡ meet A t (writes A.mover a v) → Err w ≡ step_at A t i Q
+          assign_refused f = halted _ _ _ (gone _ _ _ assigned (v, n) e) _ f
 
-          pub assign_told : (s : Lists) → Ok s ≡ meet A t (writes A.mover a v) → Ok (s, n) ≡ step_at A t i Q
-          assign_told s f = sym (gone _ _ _ (gone _ _ _ assigned (v, n) e) s f)
+          pub assign_told : {s : Lists} → Ok s ≡ meet A t (writes A.mover a v) → Ok (s, n) ≡ step_at A t i Q
+          assign_told f = sym (gone _ _ _ (gone _ _ _ assigned (v, n) e) _ f)
 
       module _ (b0 : get_or code i 0 ≡ 0x21) where
         s1 : Q ≡ known bs (order 0x21) (read_order A.level.signals 8 bs)
@@ -186,8 +186,8 @@ module _ {M : Type 0} (mail : Ghosts M) (u : Turn M) (lent : Trails) where
             last_of e (R m) (rw (z, ← r) k)
         second_of (bad f) q k v m g = absurd (let y : ◌≡◌ {A = ℕ} 0 1 = cc in omega arith)
 
-        pub store_second : (v : ℤ) (m : ℕ) → Ok (v, m) ≡ value_at S (i + 2) (R (i + 2)) → legible (R m) ≡ true
-        store_second v m f = second_of (R (i + 2)) refl some v m f
+        pub store_second : {v : ℤ} {m : ℕ} → Ok (v, m) ≡ value_at S (i + 2) (R (i + 2)) → legible (R m) ≡ true
+        store_second f = second_of (R (i + 2)) refl some _ _ f
 
         abbrev then_value : ℤ × ℕ → Result (Lists × ℕ) Why
         then_value x = follow (value_at S x.1 (R x.1)) (λ y. stored i a y.1 y.0 (cell_named A.level x.0 a))
@@ -222,29 +222,29 @@ module _ {M : Type 0} (mail : Ghosts M) (u : Turn M) (lent : Trails) where
         pub stores : step_at A t i Q ≡ follow (value_at S (i + 2) (R (i + 2))) then_value
         stores = ap (step_at A t i) are ∙ whole (R (i + 2)) refl some
 
-        pub store_halts : (w : Why) → Err w ≡ value_at S (i + 2) (R (i + 2)) → Err w ≡ step_at A t i Q
-        store_halts w e = halted _ _ _ stores w e
+        pub store_halts : {w : Why} → Err w ≡ value_at S (i + 2) (R (i + 2)) → Err w ≡ step_at A t i Q
+        store_halts e = halted _ _ _ stores _ e
 
-        module _ (x : ℤ) (m : ℕ) (e : Ok (x, m) ≡ value_at S (i + 2) (R (i + 2))) where
+        module _ {x : ℤ} {m : ℕ} (e : Ok (x, m) ≡ value_at S (i + 2) (R (i + 2))) where
           next : step_at A t i Q ≡ then_value (x, m)
           next = gone _ _ _ stores (x, m) e
 
-          pub store_stops : (w : Why) → Err w ≡ value_at S m (R m) → Err w ≡ step_at A t i Q
-          store_stops w f = halted _ _ _ next w f
+          pub store_stops : {w : Why} → Err w ≡ value_at S m (R m) → Err w ≡ step_at A t i Q
+          store_stops f = halted _ _ _ next _ f
 
-          module _ (v : ℤ) (n : ℕ) (f : Ok (v, n) ≡ value_at S m (R m)) where
+          module _ {v : ℤ} {n : ℕ} (f : Ok (v, n) ≡ value_at S m (R m)) where
             last : (o : Option ℕ) → o ≡ cell_named A.level x a → step_at A t i Q ≡ stored i a n v o
             last o k = gone _ _ _ next (v, n) f ∙ ap (stored i a n v) (sym k)
 
             pub store_misses : None ≡ cell_named A.level x a → Err (Stumbles (record { cause = Missing; place = i })) ≡ step_at A t i Q
             store_misses k = sym (last None k)
 
-            module _ (q : ℕ) (k : Some q ≡ cell_named A.level x a) where
-              pub store_refused : (w : Why) → Err w ≡ meet A t (writes q a v) → Err w ≡ step_at A t i Q
-              store_refused w j = halted _ _ _ (last (Some q) k) w j
+            module _ {q : ℕ} (k : Some q ≡ cell_named A.level x a) where
+              pub store_refused : {w : Why} → Err w ≡ meet A t (writes q a v) → Err w ≡ step_at A t i Q
+              store_refused j = halted _ _ _ (last (Some q) k) _ j
 
-              pub store_told : (s : Lists) → Ok s ≡ meet A t (writes q a v) → Ok (s, n) ≡ step_at A t i Q
-              store_told s j = sym (gone _ _ _ (last (Some q) k) s j)
+              pub store_told : {s : Lists} → Ok s ≡ meet A t (writes q a v) → Ok (s, n) ≡ step_at A t i Q
+              store_told j = sym (gone _ _ _ (last (Some q) k) _ j)
 
       module _ (b0 : get_or code i 0 ≡ 0x22) where
         s2 : Q ≡ known bs (order 0x22) (read_order A.level.signals 8 bs)
@@ -320,40 +320,46 @@ module _ {M : Type 0} (mail : Ghosts M) (u : Turn M) (lent : Trails) where
         pub delivers : step_at A t i Q ≡ follow (value_at S (i + 2) (R (i + 2))) then_message
         delivers = ap (step_at A t i) sends_are ∙ with_numbers (R (i + 2)) refl some_all
 
-        pub send_halts : (w : Why) → Err w ≡ value_at S (i + 2) (R (i + 2)) → Err w ≡ step_at A t i Q
-        send_halts w e = halted _ _ _ delivers w e
+        pub send_halts : {w : Why} → Err w ≡ value_at S (i + 2) (R (i + 2)) → Err w ≡ step_at A t i Q
+        send_halts e = halted _ _ _ delivers _ e
 
-        -- s is the signal, as the code comes by it
-        module _ (s : ℕ) (of : a ≡ s) (x : ℤ) (m : ℕ) (e : Ok (x, m) ≡ value_at S (i + 2) (R (i + 2))) where
+        -- s is the signal, as the code comes by it: `cs` are the bytes that it looks at
+        module _ {cs : List ℕ} (are_code : cs ≡ code) {x : ℤ} {m : ℕ} (e : Ok (x, m) ≡ value_at S (i + 2) (R (i + 2))) where
+          abbrev s : ℕ
+          s = get_or cs (i + 1) 0
+
+          of : a ≡ s
+          of = ap (λ l. get_or l (i + 1) 0) (sym are_code)
+
           pub message_reads : legible (Rs s m) ≡ true
           message_reads = subst (λ z. legible (Rs z m) ≡ true) of (send_numbers x m e)
 
           then_next : step_at A t i Q ≡ follow (message_at S s m (Rs s m)) (λ y. delivered i y.1 y.0 (piece_named A.level x))
           then_next = gone _ _ _ delivers (x, m) e ∙ ap (λ z. follow (message_at S z m (Rs z m)) (λ y. delivered i y.1 y.0 (piece_named A.level x))) of
 
-          pub send_stops : (w : Why) → Err w ≡ message_at S s m (Rs s m) → Err w ≡ step_at A t i Q
-          send_stops w f = halted _ _ _ then_next w f
+          pub send_stops : {w : Why} → Err w ≡ message_at S s m (Rs s m) → Err w ≡ step_at A t i Q
+          send_stops f = halted _ _ _ then_next _ f
 
-          module _ (v : Message) (n : ℕ) (f : Ok (v, n) ≡ message_at S s m (Rs s m)) where
+          module _ {v : Message} {n : ℕ} (f : Ok (v, n) ≡ message_at S s m (Rs s m)) where
             at_last : (o : Option ℕ) → o ≡ piece_named A.level x → step_at A t i Q ≡ delivered i n v o
             at_last o k = gone _ _ _ then_next (v, n) f ∙ ap (delivered i n v) (sym k)
 
             pub send_misses : None ≡ piece_named A.level x → Err (Stumbles (record { cause = Missing; place = i })) ≡ step_at A t i Q
             send_misses k = sym (at_last None k)
 
-            module _ (q : ℕ) (k : Some q ≡ piece_named A.level x) where
-              pub send_refused : (w : Why) → Err w ≡ meet A t (sends q v) → Err w ≡ step_at A t i Q
-              send_refused w j = halted _ _ _ (at_last (Some q) k) w j
+            module _ {q : ℕ} (k : Some q ≡ piece_named A.level x) where
+              pub send_refused : {w : Why} → Err w ≡ meet A t (sends q v) → Err w ≡ step_at A t i Q
+              send_refused j = halted _ _ _ (at_last (Some q) k) _ j
 
-              pub send_told : (s : Lists) → Ok s ≡ meet A t (sends q v) → Ok (s, n) ≡ step_at A t i Q
-              send_told s j = sym (gone _ _ _ (at_last (Some q) k) s j)
+              pub send_told : {s : Lists} → Ok s ≡ meet A t (sends q v) → Ok (s, n) ≡ step_at A t i Q
+              send_told j = sym (gone _ _ _ (at_last (Some q) k) _ j)
 
 -- a refusal that is passed on says nothing of the trails
-pub refused_with : {X : Type 0} (r : Result X Why) (t : Lists) (x : Result (Lists × X) Why) (w : Why) → IsErrAnd r (λ v. v ≡ w) → Err w ≡ x → with_lists r t ≡ x
-refused_with r t x w h f = ap (λ z. with_lists z t) (passed_on r w h) ∙ f
+pub refused_with : {X : Type 0} (r : Result X Why) (t : Lists) {x : Result (Lists × X) Why} {w : Why} → IsErrAnd r (λ v. v ≡ w) → Err w ≡ x → with_lists r t ≡ x
+refused_with r t h f = ap (λ z. with_lists z t) (passed_on r _ h) ∙ f
 
-pub refused_or : {X : Type 0} (r : Result X Why) (t : Lists) (x : Result Lists Why) (w : Why) → IsErrAnd r (λ v. v ≡ w) → Err w ≡ x → lists_or r t ≡ x
-refused_or r t x w h f = ap (λ z. lists_or z t) (passed_on r w h) ∙ f
+pub refused_or : {X : Type 0} (r : Result X Why) (t : Lists) {x : Result Lists Why} {w : Why} → IsErrAnd r (λ v. v ≡ w) → Err w ≡ x → lists_or r t ≡ x
+refused_or r t h f = ap (λ z. lists_or z t) (passed_on r _ h) ∙ f
 
 -- a name that is there, and one that is missing
 pub found_named : (o : Option ℕ) (i q : ℕ) → Ok q ≡ there o i → Some q ≡ o

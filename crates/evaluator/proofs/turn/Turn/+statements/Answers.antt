@@ -16,7 +16,7 @@ statement-requires g t c =
 pub returns-in_err-next-clause-lists : goal.returns-in_err-next-clause-lists
 returns-in_err-next-clause-lists g t c =
     let z : get_or (code c.args.self.now.level.now) c.args.at 0 ≡ 0 → ⊥ = λ e. c.if-code-at-eq0.false (ap (λ l. get_or l c.args.at 0) c.code.ensures ∙ e) in
-    refused_or _ _ _ _ c.from_residual.ensures.1 (effect_halts g.M.Mail c.args.self.now c.args.trails.now c.args.left c.args.at c.requires z _ c.in_err-next.ensures.lists)
+    refused_or _ _ c.from_residual.ensures.1 (effect_halts g.M.Mail c.args.self.now c.args.trails.now c.args.left c.args.at c.requires z _ c.in_err-next.ensures.lists)
 
 pub statements-requires : goal.statements-requires
 statements-requires g t c κs within =

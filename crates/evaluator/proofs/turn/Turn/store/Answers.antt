@@ -6,21 +6,21 @@ use Rattle.evaluator.proofs.turn.Turn.store.Goals as goal
 
 pub returns-in_err-named-clause-lists : goal.returns-in_err-named-clause-lists
 returns-in_err-named-clause-lists g c =
-    refused_with _ _ _ _ c.from_residual.ensures.1 (store_halts g.M.Mail c.args.self.now c.args.trails.now c.args.at c.requires.legible c.requires.byte _ c.in_err-named.ensures)
+    refused_with _ _ c.from_residual.ensures.1 (store_halts g.M.Mail c.args.self.now c.args.trails.now c.args.at c.requires.legible c.requires.byte c.in_err-named.ensures)
 
 pub expression-requires-2 : goal.expression-requires-2
-expression-requires-2 g c = store_second g.M.Mail c.args.self.now c.args.trails.now c.args.at c.requires.legible c.requires.byte c.in_ok-named.named c.in_ok-named.middle c.in_ok-named.ensures
+expression-requires-2 g c = store_second g.M.Mail c.args.self.now c.args.trails.now c.args.at c.requires.legible c.requires.byte c.in_ok-named.ensures
 
 pub returns-in_err-value-clause-lists : goal.returns-in_err-value-clause-lists
 returns-in_err-value-clause-lists g c =
-    refused_with _ _ _ _ c.from_residual-in_err-value.ensures.1 (store_stops g.M.Mail c.args.self.now c.args.trails.now c.args.at c.requires.legible c.requires.byte c.in_ok-named.named c.in_ok-named.middle c.in_ok-named.ensures _ c.in_err-value.ensures)
+    refused_with _ _ c.from_residual-in_err-value.ensures.1 (store_stops g.M.Mail c.args.self.now c.args.trails.now c.args.at c.requires.legible c.requires.byte c.in_ok-named.ensures c.in_err-value.ensures)
 
 pub returns-in_err-piece-clause-lists : goal.returns-in_err-piece-clause-lists
 returns-in_err-piece-clause-lists g c =
     let e : SFits w32 c.in_ok-named.named = search rules in
     let m = missing_named _ _ _ c.in_err-piece.ensures in
     let k = simp (to_z-of_z, c.code.ensures) at (m.0 ∙ c.cell_named.ensures) in
-    refused_with _ _ _ _ c.from_residual-in_err-piece.ensures.1 (ap (λ s. Err (Stumbles s)) m.1 ∙ store_misses g.M.Mail c.args.self.now c.args.trails.now c.args.at c.requires.legible c.requires.byte c.in_ok-named.named c.in_ok-named.middle c.in_ok-named.ensures c.in_ok-value.value c.in_ok-value.next c.in_ok-value.ensures k)
+    refused_with _ _ c.from_residual-in_err-piece.ensures.1 (ap (λ s. Err (Stumbles s)) m.1 ∙ store_misses g.M.Mail c.args.self.now c.args.trails.now c.args.at c.requires.legible c.requires.byte c.in_ok-named.ensures c.in_ok-value.ensures k)
 
 pub returns-in_err-write-clause-lists : goal.returns-in_err-write-clause-lists
 returns-in_err-write-clause-lists g c =
@@ -28,7 +28,7 @@ returns-in_err-write-clause-lists g c =
     let f : SFits w32 c.in_ok-value.value = search rules in
     let k = simp (to_z-of_z, c.code.ensures) at (found_named _ _ _ c.in_ok-piece.ensures ∙ c.cell_named.ensures) in
     let w = simp (to_z-of_z, c.code.ensures) at c.in_err-write.ensures.lists in
-    refused_with _ _ _ _ c.from_residual-in_err-write.ensures.1 (store_refused g.M.Mail c.args.self.now c.args.trails.now c.args.at c.requires.legible c.requires.byte c.in_ok-named.named c.in_ok-named.middle c.in_ok-named.ensures c.in_ok-value.value c.in_ok-value.next c.in_ok-value.ensures c.in_ok-piece.piece k _ w)
+    refused_with _ _ c.from_residual-in_err-write.ensures.1 (store_refused g.M.Mail c.args.self.now c.args.trails.now c.args.at c.requires.legible c.requires.byte c.in_ok-named.ensures c.in_ok-value.ensures k w)
 
 pub returns-clause-lists : goal.returns-clause-lists
 returns-clause-lists g c =
@@ -36,4 +36,4 @@ returns-clause-lists g c =
     let f : SFits w32 c.in_ok-value.value = search rules in
     let k = simp (to_z-of_z, c.code.ensures) at (found_named _ _ _ c.in_ok-piece.ensures ∙ c.cell_named.ensures) in
     let w = simp (to_z-of_z, c.code.ensures) at c.in_ok-write.ensures.lists in
-    store_told g.M.Mail c.args.self.now c.args.trails.now c.args.at c.requires.legible c.requires.byte c.in_ok-named.named c.in_ok-named.middle c.in_ok-named.ensures c.in_ok-value.value c.in_ok-value.next c.in_ok-value.ensures c.in_ok-piece.piece k _ w
+    store_told g.M.Mail c.args.self.now c.args.trails.now c.args.at c.requires.legible c.requires.byte c.in_ok-named.ensures c.in_ok-value.ensures k w

@@ -15,7 +15,7 @@ expression-requires g c = guard_legible c.args.self.now (held c.args.trails.now.
 
 pub returns-in_err-value-clause-lists : goal.returns-in_err-value-clause-lists
 returns-in_err-value-clause-lists g c =
-    refused_or _ _ _ _ c.from_residual-in_err-value.ensures.1 (transit_stops g.M.Mail c.args.self.now (places c.args.trails.now) c.args.number c.in-Some.found c.in-Some.ensures (lists c.args.trails.now) c.args.message (lists c.received.new.trails) c.in_ok-received.ensures.lists _ c.in_err-value.ensures)
+    refused_or _ _ c.from_residual-in_err-value.ensures.1 (transit_stops g.M.Mail c.args.self.now (places c.args.trails.now) c.args.number c.in-Some.found c.in-Some.ensures (lists c.args.trails.now) c.args.message (lists c.received.new.trails) c.in_ok-received.ensures.lists _ c.in_err-value.ensures)
 
 pub returns-then-not-holds-clause-lists : goal.returns-then-not-holds-clause-lists
 returns-then-not-holds-clause-lists g c =
