@@ -256,7 +256,7 @@ module _ (s : Sight) (bytes : (i : ℕ) → Bytes (drop i s.code)) where
     by_none n = not_bad (at_place d i) _ _ (expr_none d 8 bs one (λ l u. n (rw (← first _ refl) l) (rw (← first _ refl) u))) h
 
 -- the same, as the code comes by it: `cs` are the bytes that it looks at
-module _ (v : View) (d i : ℕ) (h : legible (read_expr d 8 (drop i (code v.level.now))) ≡ true) (cs : List ℕ) (is : cs ≡ code v.level.now) where
+module _ (v : View) (d i : ℕ) (h : legible (read_expr d 8 (drop i (code v.level.now))) ≡ true) {cs : List ℕ} (is : cs ≡ code v.level.now) where
   abbrev B : (k : ℕ) → Bytes (drop k (code v.level.now))
   B = bytes_from v.level.now
 
@@ -295,8 +295,8 @@ module _ (v : View) (d i : ℕ) (h : legible (read_expr d 8 (drop i (code v.leve
   at_own e = let k = by_own (sight v) B d i h (byte_is 18 e) in let b = as_long in let n = k.0 in (omega arith, k.1 ∙ rw is)
 
   -- a halt inside is the end
-  halts : (r : Result (ℤ × ℕ) Why) (K : ℤ × ℕ → Result (ℤ × ℕ) Why) → value ≡ follow r K → (w : Why) → Err w ≡ r → Err w ≡ value
-  halts r K e w f = sym (e ∙ ap (λ x. follow x K) (sym f))
+  halts : (r : Result (ℤ × ℕ) Why) (K : ℤ × ℕ → Result (ℤ × ℕ) Why) → value ≡ follow r K → {w : Why} → Err w ≡ r → Err w ≡ value
+  halts r K e f = sym (e ∙ ap (λ x. follow x K) (sym f))
 
   module _ (e : get_or cs i 0 ≡ 19) where
     abbrev a : ℕ
@@ -311,11 +311,11 @@ module _ (v : View) (d i : ℕ) (h : legible (read_expr d 8 (drop i (code v.leve
     pub other_legible : legible (R (d - 1) (i + 2)) ≡ true
     other_legible = (by_other (sight v) B d i h (byte_is 19 e)).1
 
-    pub other_halts : (w : Why) → Err w ≡ value_at (sight v) (i + 2) (R (d - 1) (i + 2)) → Err w ≡ value
-    other_halts w f = halts _ _ others w f
+    pub other_halts : {w : Why} → Err w ≡ value_at (sight v) (i + 2) (R (d - 1) (i + 2)) → Err w ≡ value
+    other_halts f = halts _ _ others f
 
-    pub other_told : (z : ℤ) (m : ℕ) → Ok (z, m) ≡ value_at (sight v) (i + 2) (R (d - 1) (i + 2)) → (o : Option ℕ) → o ≡ cell_named (meaning v.level.now) z a → cell_told (sight v) i a m o ≡ value
-    other_told z m f o k = sym (others ∙ ap (λ r. follow r (λ x. cell_told (sight v) i a x.1 (cell_named (meaning v.level.now) x.0 a))) (sym f) ∙ ap (cell_told (sight v) i a m) (sym k))
+    pub other_told : {z : ℤ} {m : ℕ} → Ok (z, m) ≡ value_at (sight v) (i + 2) (R (d - 1) (i + 2)) → (o : Option ℕ) → o ≡ cell_named (meaning v.level.now) z a → cell_told (sight v) i a m o ≡ value
+    other_told {m = m} f o k = sym (others ∙ ap (λ r. follow r (λ x. cell_told (sight v) i a x.1 (cell_named (meaning v.level.now) x.0 a))) (sym f) ∙ ap (cell_told (sight v) i a m) (sym k))
 
   module _ (e : get_or cs i 0 ≡ 29) where
     pub negation_legible : legible (R (d - 1) (i + 1)) ≡ true
@@ -324,21 +324,21 @@ module _ (v : View) (d i : ℕ) (h : legible (read_expr d 8 (drop i (code v.leve
     negated : value ≡ follow (value_at (sight v) (i + 1) (R (d - 1) (i + 1))) (λ x. Ok (truth (not (holds x.0)), x.1))
     negated = (by_negation (sight v) B d i h (byte_is 29 e)).1
 
-    pub negation_halts : (w : Why) → Err w ≡ value_at (sight v) (i + 1) (R (d - 1) (i + 1)) → Err w ≡ value
-    negation_halts w f = halts _ _ negated w f
+    pub negation_halts : {w : Why} → Err w ≡ value_at (sight v) (i + 1) (R (d - 1) (i + 1)) → Err w ≡ value
+    negation_halts f = halts _ _ negated f
 
-    pub negation_told : (z : ℤ) (m : ℕ) → Ok (z, m) ≡ value_at (sight v) (i + 1) (R (d - 1) (i + 1)) → Ok (truth (not (holds z)), m) ≡ value
-    negation_told z m f = sym (negated ∙ ap (λ r. follow r (λ x. Ok (truth (not (holds x.0)), x.1))) (sym f))
+    pub negation_told : {z : ℤ} {m : ℕ} → Ok (z, m) ≡ value_at (sight v) (i + 1) (R (d - 1) (i + 1)) → Ok (truth (not (holds z)), m) ≡ value
+    negation_told f = sym (negated ∙ ap (λ r. follow r (λ x. Ok (truth (not (holds x.0)), x.1))) (sym f))
 
-  module _ (low : 20 ≤ get_or cs i 0) (high : get_or cs i 0 ≤ 28) where
+  module _ (between : (20 ≤ get_or cs i 0) × (get_or cs i 0 ≤ 28)) where
     abbrev c : ℕ
     c = get_or (code v.level.now) i 0
 
     at_least : 20 ≤ c
-    at_least = let k = byte_is _ refl in omega arith
+    at_least = let k = byte_is _ refl in let b = between.0 in omega arith
 
     at_most : c ≤ 28
-    at_most = let k = byte_is _ refl in omega arith
+    at_most = let k = byte_is _ refl in let b = between.1 in omega arith
 
     pub left_reads : legible (R (d - 1) (i + 1)) ≡ true
     left_reads = left_legible (sight v) B d i h at_least at_most
@@ -352,21 +352,21 @@ module _ (v : View) (d i : ℕ) (h : legible (read_expr d 8 (drop i (code v.leve
     both : value ≡ follow (value_at (sight v) (i + 1) (R (d - 1) (i + 1))) then_both
     both = by_binary (sight v) B d i h at_least at_most ∙ rw is
 
-    pub left_halts : (w : Why) → Err w ≡ value_at (sight v) (i + 1) (R (d - 1) (i + 1)) → Err w ≡ value
-    left_halts w f = halts _ _ both w f
+    pub left_halts : {w : Why} → Err w ≡ value_at (sight v) (i + 1) (R (d - 1) (i + 1)) → Err w ≡ value
+    left_halts f = halts _ _ both f
 
-    module _ (y : ℤ) (m : ℕ) (f : Ok (y, m) ≡ value_at (sight v) (i + 1) (R (d - 1) (i + 1))) where
+    module _ {y : ℤ} {m : ℕ} (f : Ok (y, m) ≡ value_at (sight v) (i + 1) (R (d - 1) (i + 1))) where
       pub right_reads : legible (R (d - 1) m) ≡ true
       right_reads = right_legible (sight v) B d i h at_least at_most y m f
 
       right_next : value ≡ follow (value_at (sight v) m (R (d - 1) m)) (then_right y)
       right_next = both ∙ ap (λ r. follow r then_both) (sym f)
 
-      pub right_halts : (w : Why) → Err w ≡ value_at (sight v) m (R (d - 1) m) → Err w ≡ value
-      right_halts w k = halts _ _ right_next w k
+      pub right_halts : {w : Why} → Err w ≡ value_at (sight v) m (R (d - 1) m) → Err w ≡ value
+      right_halts k = halts _ _ right_next k
 
-      pub both_told : (z : ℤ) (n : ℕ) → Ok (z, n) ≡ value_at (sight v) m (R (d - 1) m) → (o : Option ℤ) → o ≡ result_of (get_or cs i 0) y z → result_told i n o ≡ value
-      both_told z n k o j = sym (right_next ∙ ap (λ r. follow r (then_right y)) (sym k) ∙ ap (result_told i n) (sym j))
+      pub both_told : {z : ℤ} {n : ℕ} → Ok (z, n) ≡ value_at (sight v) m (R (d - 1) m) → (o : Option ℤ) → o ≡ result_of (get_or cs i 0) y z → result_told i n o ≡ value
+      both_told {n = n} k o j = sym (right_next ∙ ap (λ r. follow r (then_right y)) (sym k) ∙ ap (result_told i n) (sym j))
 
   pub at_none : (16 ≤ get_or cs i 0 → get_or cs i 0 ≤ 29 → ⊥) → ⊥
   at_none n = by_none (sight v) B d i h (λ l u. let k = byte_is _ refl in n (omega arith) (omega arith))
