@@ -9,12 +9,8 @@ returns-in_err-value-clause-lists g c =
 
 pub returns-in_err-write-clause-lists : goal.returns-in_err-write-clause-lists
 returns-in_err-write-clause-lists g c =
-    let f : SFits w32 c.in_ok-value.value = search rules in
-    let w = simp (c.own_change.ensures, to_z-of_z, c.code.ensures) at c.in_err-write.ensures.lists in
-    refused_with _ _ c.from_residual-in_err-write.ensures.1 (assign_refused g.M.Mail c.args.self.now c.args.trails.now c.args.at c.requires.legible c.requires.byte c.in_ok-value.ensures w)
+    refused_with _ _ c.from_residual-in_err-write.ensures.1 (assign_refused g.M.Mail c.args.self.now c.args.trails.now c.args.at c.requires.legible c.requires.byte c.in_ok-value.ensures (search (rules, c.own_change.ensures, c.code.ensures)))
 
 pub returns-clause-lists : goal.returns-clause-lists
 returns-clause-lists g c =
-    let f : SFits w32 c.in_ok-value.value = search rules in
-    let w = simp (c.own_change.ensures, to_z-of_z, c.code.ensures) at c.in_ok-write.ensures.lists in
-    assign_told g.M.Mail c.args.self.now c.args.trails.now c.args.at c.requires.legible c.requires.byte c.in_ok-value.ensures w
+    assign_told g.M.Mail c.args.self.now c.args.trails.now c.args.at c.requires.legible c.requires.byte c.in_ok-value.ensures (search (rules, c.own_change.ensures, c.code.ensures))

@@ -17,19 +17,15 @@ returns-in_err-message-clause-lists g c =
 
 pub returns-in_err-piece-clause-lists : goal.returns-in_err-piece-clause-lists
 returns-in_err-piece-clause-lists g c =
-    let e : SFits w32 c.in_ok-named.named = search rules in
     let m = missing_named _ _ _ c.in_err-piece.ensures in
-    let k = simp to_z-of_z at (m.0 ∙ c.piece_named.ensures) in
-    refused_with _ _ c.from_residual-in_err-piece.ensures.1 (ap (λ s. Err (Stumbles s)) m.1 ∙ send_misses g.M.Mail c.args.self.now c.args.trails.now c.args.at c.requires.legible c.requires.byte c.code.ensures c.in_ok-named.ensures c.in_ok-message.ensures k)
+    refused_with _ _ c.from_residual-in_err-piece.ensures.1 (ap (λ s. Err (Stumbles s)) m.1 ∙ send_misses g.M.Mail c.args.self.now c.args.trails.now c.args.at c.requires.legible c.requires.byte c.code.ensures c.in_ok-named.ensures c.in_ok-message.ensures (search (rules, m.0, c.piece_named.ensures)))
 
 pub returns-in_err-send-clause-lists : goal.returns-in_err-send-clause-lists
 returns-in_err-send-clause-lists g c =
-    let e : SFits w32 c.in_ok-named.named = search rules in
-    let k = simp to_z-of_z at (found_named _ _ _ c.in_ok-piece.ensures ∙ c.piece_named.ensures) in
-    refused_with _ _ c.from_residual-in_err-send.ensures.1 (send_refused g.M.Mail c.args.self.now c.args.trails.now c.args.at c.requires.legible c.requires.byte c.code.ensures c.in_ok-named.ensures c.in_ok-message.ensures k c.in_err-send.ensures.lists)
+    let k = found_named _ _ _ c.in_ok-piece.ensures in
+    refused_with _ _ c.from_residual-in_err-send.ensures.1 (send_refused g.M.Mail c.args.self.now c.args.trails.now c.args.at c.requires.legible c.requires.byte c.code.ensures c.in_ok-named.ensures c.in_ok-message.ensures (search (rules, k, c.piece_named.ensures)) c.in_err-send.ensures.lists)
 
 pub returns-clause-lists : goal.returns-clause-lists
 returns-clause-lists g c =
-    let e : SFits w32 c.in_ok-named.named = search rules in
-    let k = simp to_z-of_z at (found_named _ _ _ c.in_ok-piece.ensures ∙ c.piece_named.ensures) in
-    send_told g.M.Mail c.args.self.now c.args.trails.now c.args.at c.requires.legible c.requires.byte c.code.ensures c.in_ok-named.ensures c.in_ok-message.ensures k c.in_ok-send.ensures.lists
+    let k = found_named _ _ _ c.in_ok-piece.ensures in
+    send_told g.M.Mail c.args.self.now c.args.trails.now c.args.at c.requires.legible c.requires.byte c.code.ensures c.in_ok-named.ensures c.in_ok-message.ensures (search (rules, k, c.piece_named.ensures)) c.in_ok-send.ensures.lists

@@ -1,5 +1,4 @@
-use Rattle.std.proofs.Common.{Some, None, ap, ◌∙◌, arith, w32, SFits, rules}
-use Rattle.std.proofs.lemmas.Int.{to_z-of_z}
+use Rattle.std.proofs.Common.{Some, None, ap, ◌∙◌, arith, rules}
 use Rattle.evaluator.specs.Reckoning.{told}
 use Rattle.evaluator.proofs.Following.{passed_on}
 use Rattle.evaluator.proofs.Reckoned.{deeper, at_constant, at_own_piece, at_own, other_long, other_legible, other_halts, other_told, negation_legible, negation_halts, negation_told, left_reads, left_halts, right_reads, right_halts, both_told, at_none}
@@ -32,15 +31,11 @@ returns-in_err-named-in-19 t c =
 
 pub returns-in-Some : goal.returns-in-Some
 returns-in-Some t c =
-    let f : SFits w32 c.in_ok-named-in-19.named = search rules in
-    let n = simp to_z-of_z at c.in-Some.ensures in
-    ap (λ r. told r c.nested.new.at) c.read-in-19.ensures ∙ other_told c.args.self.now c.args.depth c.args.at.now c.requires c.code-code.ensures c.in-19.is c.in_ok-named-in-19.ensures (Some c.in-Some.piece) n
+    ap (λ r. told r c.nested.new.at) c.read-in-19.ensures ∙ other_told c.args.self.now c.args.depth c.args.at.now c.requires c.code-code.ensures c.in-19.is c.in_ok-named-in-19.ensures (Some c.in-Some.piece) (search rules)
 
 pub returns-in_default-cell_named : goal.returns-in_default-cell_named
 returns-in_default-cell_named t c =
-    let f : SFits w32 c.in_ok-named-in-19.named = search rules in
-    let n = simp to_z-of_z at c.in_default-cell_named.ensures in
-    other_told c.args.self.now c.args.depth c.args.at.now c.requires c.code-code.ensures c.in-19.is c.in_ok-named-in-19.ensures None n
+    other_told c.args.self.now c.args.depth c.args.at.now c.requires c.code-code.ensures c.in-19.is c.in_ok-named-in-19.ensures None (search rules)
 
 pub nested-requires-in-20-to-28 : goal.nested-requires-in-20-to-28
 nested-requires-in-20-to-28 t c = let d = deeper c.args.self.now c.args.depth c.args.at.now c.requires c.code-code.ensures in (omega arith, left_reads c.args.self.now c.args.depth c.args.at.now c.requires c.code-code.ensures (search rules))
@@ -60,18 +55,12 @@ returns-in_err-right-in-20-to-28 t c =
 
 pub returns-in-Some-computed : goal.returns-in-Some-computed
 returns-in-Some-computed t c =
-    let f : SFits w32 c.in_ok-left-in-20-to-28.left = search rules in
-    let g : SFits w32 c.in_ok-right-in-20-to-28.right = search rules in
-    let n = simp to_z-of_z at c.in-Some-computed.ensures in
-    let k = both_told c.args.self.now c.args.depth c.args.at.now c.requires c.code-code.ensures (search rules) c.in_ok-left-in-20-to-28.ensures c.in_ok-right-in-20-to-28.ensures (Some c.in-Some-computed.value) n in
+    let k = both_told c.args.self.now c.args.depth c.args.at.now c.requires c.code-code.ensures (search rules) c.in_ok-left-in-20-to-28.ensures c.in_ok-right-in-20-to-28.ensures (Some c.in-Some-computed.value) (search rules) in
     search (rules, k)
 
 pub returns-in_default-computed : goal.returns-in_default-computed
 returns-in_default-computed t c =
-    let f : SFits w32 c.in_ok-left-in-20-to-28.left = search rules in
-    let g : SFits w32 c.in_ok-right-in-20-to-28.right = search rules in
-    let n = simp to_z-of_z at c.in_default-computed.ensures in
-    let k = both_told c.args.self.now c.args.depth c.args.at.now c.requires c.code-code.ensures (search rules) c.in_ok-left-in-20-to-28.ensures c.in_ok-right-in-20-to-28.ensures None n in
+    let k = both_told c.args.self.now c.args.depth c.args.at.now c.requires c.code-code.ensures (search rules) c.in_ok-left-in-20-to-28.ensures c.in_ok-right-in-20-to-28.ensures None (search rules) in
     search (rules, k)
 
 pub nested-requires-in-29 : goal.nested-requires-in-29
@@ -83,7 +72,6 @@ returns-in_err-value-in-29 t c =
 
 pub returns-in_ok-value-in-29 : goal.returns-in_ok-value-in-29
 returns-in_ok-value-in-29 t c =
-    let f : SFits w32 c.in_ok-value-in-29.value = search rules in
     let k = negation_told c.args.self.now c.args.depth c.args.at.now c.requires c.code-code.ensures c.in-29.is c.in_ok-value-in-29.ensures in
     search (rules, k)
 
