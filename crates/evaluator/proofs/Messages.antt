@@ -4,18 +4,22 @@ use Rattle.std.specs.Option.{unwrap_or}
 use Rattle.mail.specs.declared.message.Message.{Message}
 use Rattle.level.specs.declared.store.Level.{Level}
 use Rattle.level.specs.Law.{Bytes}
-use Rattle.level.specs.Levels.{meaning, signal_parameters}
+use Rattle.level.specs.Levels.{code, meaning, signal_parameters}
 use Rattle.level.specs.Reading.{Read, got, bad, then, read_expr, read_exprs}
 use Rattle.level.specs.Sound.{Each, deepest, parameters}
 use Rattle.level.specs.Spelling.{expression, size, all}
 use Rattle.level.specs.Syntax.{Expr}
 use Rattle.level.specs.Tables.{nth}
 use Rattle.level.proofs.Held.{held_sound}
+use Rattle.level.proofs.Legible.{bytes_from}
 use Rattle.rules.specs.declared.fault.Why.{Why}
 use Rattle.rules.specs.Game.{message}
 use Rattle.rules.specs.Trace.{give, bind}
-use Rattle.evaluator.specs.Meeting.{message_at}
+use Rattle.evaluator.specs.declared.trail.Trails.{Trails}
+use Rattle.evaluator.specs.declared.turn.Turn.{Turn}
+use Rattle.evaluator.specs.Meeting.{message_at, sight_of}
 use Rattle.evaluator.specs.Reckoning.{Sight, follow, valued, legible, value_at}
+use Rattle.evaluator.specs.Trails.{held}
 use Rattle.evaluator.proofs.Following.{follow_follow, follow_same, valued_bind, halted, gone}
 use Rattle.evaluator.proofs.Reckoned.{V, inner, after, ends}
 
@@ -131,7 +135,13 @@ module _ (s : Sight) (bytes : (i : ℕ) → Bytes (drop i s.code)) (n i : ℕ) w
     message_two = told_two (R i) refl h
 
 -- the same for a signal of k numbers, as the code comes by it
-module _ (s : Sight) (bytes : (i : ℕ) → Bytes (drop i s.code)) (n i k : ℕ) (h : legible (read_exprs k 8 (drop i s.code)) ≡ true) where
+module _ {M : Type 0} (u : Turn M) (lent : Trails) (n i k : ℕ) (h : legible (read_exprs k 8 (drop i (code u.level.now))) ≡ true) where
+  abbrev s : Sight
+  s = sight_of u (held lent.changes)
+
+  abbrev bytes : (j : ℕ) → Bytes (drop j s.code)
+  bytes = bytes_from u.level.now
+
   abbrev told : Result (Message × ℕ) Why
   told = message_at s n i (read_exprs k 8 (drop i s.code))
 
@@ -152,28 +162,28 @@ module _ (s : Sight) (bytes : (i : ℕ) → Bytes (drop i s.code)) (n i k : ℕ)
     is : told ≡ follow first (one s bytes n i)
     is = told_at 1 e ∙ message_one s bytes n i (legible_at 1 e)
 
-    pub one_halts : (w : Why) → Err w ≡ first → Err w ≡ told
-    one_halts w f = halted _ _ _ is w f
+    pub one_halts : {w : Why} → Err w ≡ first → Err w ≡ told
+    one_halts f = halted _ _ _ is _ f
 
-    pub one_told : (v : ℤ) (m : ℕ) → Ok (v, m) ≡ first → Ok (message n (v ∷ []), m) ≡ told
-    one_told v m f = sym (gone _ _ _ is (v, m) f)
+    pub one_told : {v : ℤ} {m : ℕ} → Ok (v, m) ≡ first → Ok (message n (v ∷ []), m) ≡ told
+    one_told f = sym (gone _ _ _ is _ f)
 
   module _ (e : k ≡ 2) where
     are : told ≡ follow first (two s bytes n i)
     are = told_at 2 e ∙ message_two s bytes n i (legible_at 2 e)
 
-    pub first_halts : (w : Why) → Err w ≡ first → Err w ≡ told
-    first_halts w f = halted _ _ _ are w f
+    pub first_halts : {w : Why} → Err w ≡ first → Err w ≡ told
+    first_halts f = halted _ _ _ are _ f
 
-    module _ (v : ℤ) (m : ℕ) (f : Ok (v, m) ≡ first) where
+    module _ {v : ℤ} {m : ℕ} (f : Ok (v, m) ≡ first) where
       pub second_reads : legible (R s bytes n i m) ≡ true
       second_reads = second_legible s bytes n i (legible_at 2 e) v m f
 
       second : told ≡ follow (value_at s m (R s bytes n i m)) (λ y. Ok (message n (v ∷ y.0 ∷ []), y.1))
       second = gone _ _ _ are (v, m) f
 
-      pub second_halts : (w : Why) → Err w ≡ value_at s m (R s bytes n i m) → Err w ≡ told
-      second_halts w q = halted _ _ _ second w q
+      pub second_halts : {w : Why} → Err w ≡ value_at s m (R s bytes n i m) → Err w ≡ told
+      second_halts q = halted _ _ _ second _ q
 
-      pub two_told : (u : ℤ) (j : ℕ) → Ok (u, j) ≡ value_at s m (R s bytes n i m) → Ok (message n (v ∷ u ∷ []), j) ≡ told
-      two_told u j q = sym (gone _ _ _ second (u, j) q)
+      pub two_told : {x : ℤ} {j : ℕ} → Ok (x, j) ≡ value_at s m (R s bytes n i m) → Ok (message n (v ∷ x ∷ []), j) ≡ told
+      two_told q = sym (gone _ _ _ second _ q)

@@ -239,7 +239,7 @@ module _ {M : Type 0} (mail : Ghosts M) (u : Turn M) (lent : Trails) where
             pub store_misses : None ≡ cell_named A.level x a → Err (Stumbles (record { cause = Missing; place = i })) ≡ step_at A t i Q
             store_misses k = sym (last None k)
 
-            module _ {q : ℕ} (k : Some q ≡ cell_named A.level x a) where
+            module _ (q : ℕ) (k : Some q ≡ cell_named A.level x a) where
               pub store_refused : {w : Why} → Err w ≡ meet A t (writes q a v) → Err w ≡ step_at A t i Q
               store_refused j = halted _ _ _ (last (Some q) k) _ j
 

@@ -1,5 +1,4 @@
-use Rattle.std.proofs.Common.{w32, SFits, rules}
-use Rattle.std.proofs.lemmas.Int.{to_z-of_z}
+use Rattle.std.proofs.Common.{rules}
 use Rattle.evaluator.proofs.Stated.{assign_halts, assign_refused, assign_told, refused_with}
 use Rattle.evaluator.proofs.turn.Turn.assign.Goals as goal
 

@@ -1,5 +1,4 @@
-use Rattle.std.proofs.Common.{Err, ap, ◌∙◌, w32, SFits, rules}
-use Rattle.std.proofs.lemmas.Int.{to_z-of_z}
+use Rattle.std.proofs.Common.{Err, ap, ◌∙◌, rules}
 use Rattle.rules.specs.declared.fault.Why.TheVariants.{Stumbles}
 use Rattle.evaluator.proofs.Stated.{send_halts, message_reads, send_stops, send_misses, send_refused, send_told, found_named, missing_named, refused_with}
 use Rattle.evaluator.proofs.turn.Turn.post.Goals as goal

@@ -1,5 +1,4 @@
-use Rattle.std.proofs.Common.{Err, ap, ◌∙◌, w32, SFits, rules}
-use Rattle.std.proofs.lemmas.Int.{to_z-of_z}
+use Rattle.std.proofs.Common.{Err, ap, ◌∙◌, rules}
 use Rattle.rules.specs.declared.fault.Why.TheVariants.{Stumbles}
 use Rattle.evaluator.proofs.Stated.{store_halts, store_second, store_stops, store_misses, store_refused, store_told, found_named, missing_named, refused_with}
 use Rattle.evaluator.proofs.turn.Turn.store.Goals as goal
@@ -17,23 +16,15 @@ returns-in_err-value-clause-lists g c =
 
 pub returns-in_err-piece-clause-lists : goal.returns-in_err-piece-clause-lists
 returns-in_err-piece-clause-lists g c =
-    let e : SFits w32 c.in_ok-named.named = search rules in
     let m = missing_named _ _ _ c.in_err-piece.ensures in
-    let k = simp (to_z-of_z, c.code.ensures) at (m.0 ∙ c.cell_named.ensures) in
-    refused_with _ _ c.from_residual-in_err-piece.ensures.1 (ap (λ s. Err (Stumbles s)) m.1 ∙ store_misses g.M.Mail c.args.self.now c.args.trails.now c.args.at c.requires.legible c.requires.byte c.in_ok-named.ensures c.in_ok-value.ensures k)
+    refused_with _ _ c.from_residual-in_err-piece.ensures.1 (ap (λ s. Err (Stumbles s)) m.1 ∙ store_misses g.M.Mail c.args.self.now c.args.trails.now c.args.at c.requires.legible c.requires.byte c.in_ok-named.ensures c.in_ok-value.ensures (search (rules, m.0, c.cell_named.ensures, c.code.ensures)))
 
 pub returns-in_err-write-clause-lists : goal.returns-in_err-write-clause-lists
 returns-in_err-write-clause-lists g c =
-    let e : SFits w32 c.in_ok-named.named = search rules in
-    let f : SFits w32 c.in_ok-value.value = search rules in
-    let k = simp (to_z-of_z, c.code.ensures) at (found_named _ _ _ c.in_ok-piece.ensures ∙ c.cell_named.ensures) in
-    let w = simp (to_z-of_z, c.code.ensures) at c.in_err-write.ensures.lists in
-    refused_with _ _ c.from_residual-in_err-write.ensures.1 (store_refused g.M.Mail c.args.self.now c.args.trails.now c.args.at c.requires.legible c.requires.byte c.in_ok-named.ensures c.in_ok-value.ensures k w)
+    let k = found_named _ _ _ c.in_ok-piece.ensures in
+    refused_with _ _ c.from_residual-in_err-write.ensures.1 (store_refused g.M.Mail c.args.self.now c.args.trails.now c.args.at c.requires.legible c.requires.byte c.in_ok-named.ensures c.in_ok-value.ensures c.in_ok-piece.piece (search (rules, k, c.cell_named.ensures, c.code.ensures)) (search (rules, c.code.ensures)))
 
 pub returns-clause-lists : goal.returns-clause-lists
 returns-clause-lists g c =
-    let e : SFits w32 c.in_ok-named.named = search rules in
-    let f : SFits w32 c.in_ok-value.value = search rules in
-    let k = simp (to_z-of_z, c.code.ensures) at (found_named _ _ _ c.in_ok-piece.ensures ∙ c.cell_named.ensures) in
-    let w = simp (to_z-of_z, c.code.ensures) at c.in_ok-write.ensures.lists in
-    store_told g.M.Mail c.args.self.now c.args.trails.now c.args.at c.requires.legible c.requires.byte c.in_ok-named.ensures c.in_ok-value.ensures k w
+    let k = found_named _ _ _ c.in_ok-piece.ensures in
+    store_told g.M.Mail c.args.self.now c.args.trails.now c.args.at c.requires.legible c.requires.byte c.in_ok-named.ensures c.in_ok-value.ensures c.in_ok-piece.piece (search (rules, k, c.cell_named.ensures, c.code.ensures)) (search (rules, c.code.ensures))
