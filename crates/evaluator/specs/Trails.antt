@@ -16,7 +16,7 @@ room t = length t.places.now
 abbrev pub Kept : {T : Type 0} → Trail T → Trail T → Type 0
 Kept t u = (room u ≡ room t) × (u.places.ghost_name ≡ t.places.ghost_name)
 
--- the same of both trails
+-- the same of both trails. It stands in clauses and not in an invariant, which sees one moment and not what was before
 abbrev pub KeptBoth : Trails → Trails → Type 0
 KeptBoth t u = Kept t.changes u.changes × Kept t.parcels u.parcels
 

@@ -12,6 +12,7 @@ pub fn holds(value: i32) -> bool
     value != 0
 }
 
+// A truth as a number, 1 or 0, by the rules' word: the one clause for all operators that answer it.
 pub fn truth(value: bool) -> i32
     ensures { result ≡ truth value }
 {

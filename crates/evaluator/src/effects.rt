@@ -16,7 +16,8 @@ use mail::message::Message;
 use rules::fault::{Cause, Stumble, Why};
 use rules::trail::{Change, Parcel};
 
-// How many numbers a message of this signal has; one that is not declared has none.
+// How many numbers a message of this signal has; one that is not declared has none. Apart from its call, so that a clause says in
+// the rules' word what the level's answer and the 0 come to.
 fn parameters(level: &Level, signal: u8) -> u8
     ensures { result ≡ parameters (meaning level.now).signals signal }
 {
@@ -75,7 +76,7 @@ impl<M: Mail> Turn<'_, M> {
         Ok(next)
     }
 
-    // A number of a piece becomes a value.
+    // A number of a piece becomes a value. Not one with `assign`: there the cell is an own one, here an expression names it.
     fn store(&self, at: usize, trails: &mut Trails) -> Result<usize, Why>
         requires legible { legible (statement_at self.now.level.now at) ≡ true }
         requires byte { slice_index (code self.now.level.now) at ≡ 0x21 }
@@ -126,7 +127,8 @@ impl<M: Mail> Turn<'_, M> {
         }
     }
 
-    // The statements of an effect from a place on, of which `left` may still come.
+    // The statements of an effect from a place on, of which `left` may still come. It calls itself, as the definition does: how long
+    // the effect is is not known before.
     fn statements(&self, at: usize, left: u8, trails: &mut Trails) -> Result<(), Why>
         requires { legible (effect_at self.now.level.now left at) ≡ true }
         ensures lists { lists_or result (lists trails.new) ≡ steps_at (around M.Mail self.now (places trails.old)) (lists trails.old) at (effect_at self.now.level.now left at) }
