@@ -4,7 +4,7 @@ use Rattle.std.specs.Option.{unwrap_or}
 use Rattle.mail.specs.declared.message.Message.{Message}
 use Rattle.level.specs.declared.store.Level.{Level}
 use Rattle.level.specs.Law.{Bytes}
-use Rattle.level.specs.Levels.{code, meaning, signal_parameters}
+use Rattle.level.specs.Levels.{meaning, signal_parameters}
 use Rattle.level.specs.Reading.{Read, got, bad, then, read_expr, read_exprs}
 use Rattle.level.specs.Sound.{Each, deepest, parameters}
 use Rattle.level.specs.Spelling.{expression, size, all}
@@ -19,6 +19,7 @@ use Rattle.evaluator.specs.declared.trail.Trails.{Trails}
 use Rattle.evaluator.specs.declared.turn.Turn.{Turn}
 use Rattle.evaluator.specs.Meeting.{message_at, sight_of}
 use Rattle.evaluator.specs.Reckoning.{Sight, follow, valued, legible, value_at}
+use Rattle.evaluator.specs.Standing.{expressions_at}
 use Rattle.evaluator.specs.Trails.{held}
 use Rattle.evaluator.proofs.Following.{follow_follow, follow_same, valued_bind, halted, gone}
 use Rattle.evaluator.proofs.Reckoned.{V, inner, after, ends}
@@ -134,8 +135,8 @@ module _ (s : Sight) (bytes : (i : ℕ) → Bytes (drop i s.code)) (n i : ℕ) w
     pub message_two : message_at s n i (Rs 2) ≡ follow (value_at s i (R i)) two
     message_two = told_two (R i) refl h
 
--- the same for a signal of k numbers, as the code comes by it
-module _ {M : Type 0} (u : Turn M) (lent : Trails) (n i k : ℕ) (h : legible (read_exprs k 8 (drop i (code u.level.now))) ≡ true) where
+-- the same as the code comes by it: k is how many numbers it finds that the signal has
+module _ {M : Type 0} (u : Turn M) (lent : Trails) (n i : ℕ) (h : legible (expressions_at u.level.now n i) ≡ true) {k : ℕ} (count : k ≡ parameters (meaning u.level.now).signals n) where
   abbrev s : Sight
   s = sight_of u (held lent.changes)
 
@@ -143,20 +144,23 @@ module _ {M : Type 0} (u : Turn M) (lent : Trails) (n i k : ℕ) (h : legible (r
   bytes = bytes_from u.level.now
 
   abbrev told : Result (Message × ℕ) Why
-  told = message_at s n i (read_exprs k 8 (drop i s.code))
+  told = message_at s n i (expressions_at u.level.now n i)
 
   abbrev first : Result (ℤ × ℕ) Why
   first = value_at s i (R s bytes n i i)
 
   pub none_told : k ≡ 0 → Ok (message n [], i) ≡ told
-  none_told e = message_none s bytes n i ∙ ap (λ j. message_at s n i (read_exprs j 8 (drop i s.code))) (sym e)
+  none_told e = message_none s bytes n i ∙ ap (λ j. message_at s n i (read_exprs j 8 (drop i s.code))) (sym e ∙ count)
 
   module _ (j : ℕ) (e : k ≡ j) where
+    count_is : parameters (meaning u.level.now).signals n ≡ j
+    count_is = sym count ∙ e
+
     legible_at : legible (Rs s bytes n i j) ≡ true
-    legible_at = subst (λ l. legible (read_exprs l 8 (drop i s.code)) ≡ true) e h
+    legible_at = subst (λ l. legible (read_exprs l 8 (drop i s.code)) ≡ true) count_is h
 
     told_at : told ≡ message_at s n i (Rs s bytes n i j)
-    told_at = ap (λ l. message_at s n i (read_exprs l 8 (drop i s.code))) e
+    told_at = ap (λ l. message_at s n i (read_exprs l 8 (drop i s.code))) count_is
 
   module _ (e : k ≡ 1) where
     is : told ≡ follow first (one s bytes n i)
@@ -168,7 +172,10 @@ module _ {M : Type 0} (u : Turn M) (lent : Trails) (n i k : ℕ) (h : legible (r
     pub one_told : {v : ℤ} {m : ℕ} → Ok (v, m) ≡ first → Ok (message n (v ∷ []), m) ≡ told
     one_told f = sym (gone _ _ _ is _ f)
 
-  module _ (e : k ≡ 2) where
+  module _ (more : 2 ≤ k) where
+    e : k ≡ 2
+    e = let m = two_at_most u.level.now n in let c = count in omega arith
+
     are : told ≡ follow first (two s bytes n i)
     are = told_at 2 e ∙ message_two s bytes n i (legible_at 2 e)
 
