@@ -26,5 +26,5 @@ returns c =
 pub returns-in-Err : goal.returns-in-Err
 returns-in-Err c =
     let k = refused c.args.bytes.now (omega arith) _ _ c.in-Err.ensures.read.gives in
-    let p = c.place-byte.ensures in
-    record { answer = rw (k, rw c.in-Err.ensures.read.stays at p); after = rw k; law = level_law }
+    let stays = c.in-Err.ensures.read.stays in
+    record { answer = search (rules, k, stays); after = rw k; law = level_law }
