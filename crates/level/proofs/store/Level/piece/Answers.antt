@@ -1,9 +1,7 @@
-use Rattle.std.proofs.Common.{◌≡◌, slice_get, ap, ◌∙◌, rules}
+use Rattle.std.proofs.Common.{rules}
 use Rattle.std.proofs.lemmas.Option.{gets}
 use Rattle.level.proofs.Held.{held_pieces}
 use Rattle.level.proofs.store.Level.piece.Goals as goal
 
 pub returns : goal.returns
-returns c =
-    let found : c.copied.result ≡ slice_get c.args.self.now.index.pieces.items c.args.number = search (rules, gets) in
-    found ∙ ap (λ xs. slice_get xs c.args.number) (held_pieces c.args.self.now)
+returns c = let held = held_pieces c.args.self.now in search (rules, gets, held)
