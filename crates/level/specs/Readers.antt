@@ -1,9 +1,10 @@
 -- What the code's readers promise, each of the part of a level that it reads. The law of levels does not rest on this.
-use Rattle.std.specs.Prelude.{◌≡◌, ℕ, ◌+◌, List, ◌++◌, length, drop, ℤ, Ok, Err, Result, nat_lt}
+use Rattle.std.specs.Prelude.{◌≡◌, ℕ, ◌+◌, cond, ◌&&◌, List, ◌++◌, length, drop, ℤ, Some, None, Ok, Err, Option, Result, nat_le, nat_lt}
 use Rattle.level.specs.declared.cursor.Cursor.{Cursor}
 use Rattle.level.specs.declared.entry.KindEntry.{KindEntry}
 use Rattle.level.specs.declared.entry.TransitionEntry.{TransitionEntry}
-use Rattle.level.specs.declared.fault.OperandFault.TheVariants.{TooMany}
+use Rattle.level.specs.declared.fault.OperandFault.{OperandFault}
+use Rattle.level.specs.declared.fault.OperandFault.TheVariants.{OutOfRange, TooMany}
 use Rattle.level.specs.declared.fault.Reason.{Reason}
 use Rattle.level.specs.declared.fault.Reason.TheVariants.{Operand}
 use Rattle.level.specs.Reading.{Read, got, bad, fault, when, room, at, operand, receiver, received}
@@ -45,6 +46,15 @@ opened k most n bs = turn k most n bs (got tt bs)
 abbrev pub Holds : {A : Type 0} → Read A → (A → Type 0) → Type 0
 Holds (got a l) P = P a
 Holds (bad x) P = Unit
+
+-- whether a byte is from `least` and below `limit`, and what is then made of it
+abbrev pub checked : {W : Type 0} → ℕ → ℕ → ℕ → W → Result W OperandFault
+checked least limit b w = cond (nat_le least b && nat_lt b limit) (Ok w) (Err OutOfRange)
+
+-- what a place of receiving that holds this byte gives: where a parameter stands, one of so many numbers, else FF alone
+abbrev pub receiving : Option ℕ → ℕ → Result (Option ℕ) OperandFault
+receiving (Some n) b = checked 0 n b (Some b)
+receiving None b = checked 0xFF 0x100 b None
 
 -- the operands of a transition
 pub record Head : Type 0 where

@@ -4,7 +4,7 @@ ghost use Rattle.level.specs.declared.fault.OperandFault.TheVariants.{OutOfRange
 ghost use Rattle.level.specs.Entries.{transition_entry};
 ghost use Rattle.level.specs.Places.{in_kind, placed_at};
 ghost use Rattle.level.specs.Reading.{at, read_transition, read_transitions};
-ghost use Rattle.level.specs.Readers.{Holds, Moves, head_entry, nothing, read_head, turn};
+ghost use Rattle.level.specs.Readers.{Holds, Moves, head_entry, nothing, read_head, receiving, turn};
 
 use crate::cursor::Cursor;
 use crate::entry::TransitionEntry;
@@ -13,16 +13,14 @@ use crate::scope::Scope;
 use crate::tables::Transitions;
 
 impl<'a> Cursor<'a> {
-    // The number into which a parameter is received, where one stands; else the place must hold FF.
-    fn receiver(&self, after: usize, stands: bool, numbers: u8) -> Result<Option<u8>, OperandFault>
+    // The number into which a parameter is received, of so many where one stands; else the place must hold FF.
+    fn receiver(&self, after: usize, numbers: Option<u8>) -> Result<Option<u8>, OperandFault>
         requires { after < length self.now.rest.now }
-        ensures some { stands ≡ true → result ≡ (if nat_le 0 (at self.now.rest.now after) && nat_lt (at self.now.rest.now after) numbers then Ok (Some (at self.now.rest.now after)) else Err OutOfRange) }
-        ensures none { stands ≡ false → result ≡ (if nat_le 255 (at self.now.rest.now after) && nat_lt (at self.now.rest.now after) 256 then Ok None else Err OutOfRange) }
+        ensures { result ≡ receiving numbers (at self.now.rest.now after) }
     {
-        if stands {
-            self.operand(after, 0, numbers as usize).map(Some)
-        } else {
-            self.operand(after, 0xFF, 0x100).map(|_| None)
+        match numbers {
+            Some(numbers) => self.operand(after, 0, numbers as usize).map(Some),
+            None => self.operand(after, 0xFF, 0x100).map(|_| None),
         }
     }
 
@@ -40,8 +38,8 @@ impl<'a> Cursor<'a> {
         let target = self.operand(2, 0, shape.states as usize)?;
         let signal = self.operand(3, 0, signals.counts.len() + 1)?;
         let parameters = signals.parameters(signal);
-        let first = self.receiver(4, parameters > 0, shape.numbers)?;
-        let second = self.receiver(5, parameters > 1, shape.numbers)?;
+        let first = self.receiver(4, (parameters > 0).then_some(shape.numbers))?;
+        let second = self.receiver(5, (parameters > 1).then_some(shape.numbers))?;
         self.advance(6);
         let guard = self.place();
         Ok(TransitionEntry {
