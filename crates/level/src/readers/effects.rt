@@ -41,7 +41,7 @@ impl<'a> Cursor<'a> {
         }
     }
 
-    // The statements of an effect, of which `left` may still come, and its end.
+    // The statements of an effect, of which `left` may still come, and its end: by recursion, as the definition reads them.
     pub fn statements(&mut self, left: u8, scope: &Scope<'_>) -> Result<(), Reason>
         ensures { Moves nothing (read_effect scope.now.signals.now.counts.items scope.now.shape.numbers left self.old.rest.now) result self.old self.new }
     {

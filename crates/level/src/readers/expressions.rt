@@ -60,7 +60,7 @@ impl<'a> Cursor<'a> {
         self.nested(8, numbers)
     }
 
-    // So many expressions.
+    // So many expressions, by recursion, as the definition reads them.
     pub fn expressions(&mut self, count: u8, numbers: u8) -> Result<(), Reason>
         ensures { Moves nothing (read_exprs count numbers self.old.rest.now) result self.old self.new }
     {

@@ -50,6 +50,7 @@ impl<'a> Cursor<'a> {
             first,
             second,
             guard,
+            // A stand-in until the guard is read: a type of its own without it would copy the other seven by hand.
             effect: guard,
         })
     }

@@ -1,4 +1,4 @@
-// Looking up what stands in a level.
+// Looking up what stands in a level. Pieces, kinds and transitions have a lookup each: each is of another table, with its own promise.
 ghost use Rattle.std.specs.Prelude.{◌≡◌, map, length};
 ghost use Rattle.level.specs.Entries.{kind_entry, piece_entry, transition_entry};
 ghost use Rattle.level.specs.Levels.{code, meaning, signal_parameters};

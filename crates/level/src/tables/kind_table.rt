@@ -1,4 +1,4 @@
-// The kinds by number.
+// The kinds by number. `new` and `push` are like those of the signals, but the bound on what is pushed is their own.
 ghost use Rattle.std.specs.Prelude.{◌≡◌, ◌<◌, ◌≤◌, [], ◌∷◌, ◌++◌, length, slice_index};
 ghost use Rattle.level.specs.Tables.{entry_counts};
 

@@ -1,4 +1,4 @@
-// The signals by number.
+// The signals by number. `new` and `push` are like those of the kinds, but the bound on what is pushed is their own.
 ghost use Rattle.std.specs.Prelude.{◌≡◌, ◌<◌, ◌≤◌, [], ◌∷◌, ◌++◌, length};
 ghost use Rattle.level.specs.Levels.{signal_parameters};
 ghost use Rattle.level.specs.Sound.{parameters};
