@@ -8,16 +8,16 @@ use Rattle.level.proofs.cursor.Cursor.starts.Goals as goal
 pub returns-in_err-number : goal.returns-in_err-number
 returns-in_err-number c =
     let p = handed _ c.from_residual.ensures.1 in
-    let g = starts_broke c.args.numbers c.args.self.now.rest.now c.loop-self.row c.loop-self.self.rest.now c.loop-self.invariant.0 (seen c.loop-self-test.ensures) starting _ _ c.in_err-number.ensures.gives in
+    let g = starts_broke _ _ _ _ c.loop-self.invariant.0 (seen c.loop-self-test.ensures) starting _ _ c.in_err-number.ensures.gives in
     record { gives = rw p g; stays = c.in_err-number.ensures.stays ∙ c.loop-self.invariant.1 }
 
 pub loop-self-preserved : goal.loop-self-preserved
 loop-self-preserved c = (
-  starts_again c.args.numbers c.args.self.now.rest.now c.loop-self.row c.loop-self.self.rest.now c.loop-self.invariant.0 (seen c.loop-self-test.ensures) c.loop-self.self.octets _ _ c.in_ok-number.ensures.gives,
+  starts_again _ _ _ _ c.loop-self.invariant.0 (seen c.loop-self-test.ensures) c.loop-self.self.octets _ _ c.in_ok-number.ensures.gives,
   c.in_ok-number.ensures.stays ∙ c.loop-self.invariant.1,
 )
 
 pub returns : goal.returns
 returns c =
-    let e = starts_done c.args.numbers c.args.self.now.rest.now c.loop-self.row c.loop-self.self.rest.now c.loop-self.invariant.0 (unseen c.loop-self-test.ensures) in
+    let e = starts_done _ _ _ _ c.loop-self.invariant.0 (unseen c.loop-self-test.ensures) in
     record { gives = done starting _ _ _ e _ _ c.loop-self.invariant.0.known.1 refl; stays = c.loop-self.invariant.1 }
