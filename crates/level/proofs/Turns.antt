@@ -2,9 +2,10 @@
 use Rattle.std.proofs.Common.{◌≡◌, ℕ, List, Ok, Err, Result, sym, refl, ap, ◌∙◌, subst, arith}
 use Rattle.std.specs.Result.{IsErrAnd}
 use Rattle.std.proofs.lemmas.Result.{err_from_is_err_and}
+use Rattle.level.specs.declared.cursor.Cursor.{Cursor}
 use Rattle.level.specs.declared.fault.Reason.{Reason}
 use Rattle.level.specs.Reading.{Read, got, bad, fault, then}
-use Rattle.level.specs.Readers.{answered, remains, nothing, Gives}
+use Rattle.level.specs.Readers.{answered, remains, nothing, Gives, Moves}
 
 module _ {A B : Type 0} (f : A → B) (R : Read A) where
   -- a reader that stops, or is done, by itself
@@ -58,6 +59,11 @@ module _ {A C : Type 0} (R : Read C) (F : List ℕ → Read A) (k : A → List �
 -- what `?` hands on is the refusal that was met
 pub handed : {B : Type 0} {e : Reason} (r : Result B Reason) → IsErrAnd r (λ x. x ≡ e) → r ≡ Err e
 handed r h = let p = err_from_is_err_and r h in p.1 ∙ ap Err p.2
+
+-- so a refusal is handed on within the level
+pub refused : {A B : Type 0} {f : A → B} {R : Read A} {e : Reason} {r : Result B Reason} {before after : Cursor} → IsErrAnd r (λ x. x ≡ e)
+    → Gives f R (Err e) after.rest.now → after.total ≡ before.total → Moves f R r before after
+refused h g s = record { gives = rw (handed _ h) g; stays = s }
 
 -- it was the last, and only whether it was read counts
 pub tail : {A C : Type 0} (R : Read C) (F : List ℕ → Read A) (G : A → C) (x y : List ℕ) → R ≡ then (F y) (λ a m. got (G a) m) → x ≡ y

@@ -2,15 +2,14 @@ use Rattle.std.proofs.Common.{refl, ◌∙◌}
 use Rattle.level.specs.Readers.{nothing}
 use Rattle.level.proofs.Fills.{holds_none, seen, unseen}
 use Rattle.level.proofs.Growing.{kinds_broke, kinds_again, kinds_less, kinds_done}
-use Rattle.level.proofs.Turns.{done, handed}
+use Rattle.level.proofs.Turns.{done, refused}
 use Rattle.level.proofs.cursor.Cursor.kinds.Goals as goal
 
 pub returns-in_err-shape : goal.returns-in_err-shape
 returns-in_err-shape c =
-    let p = handed _ c.from_residual.ensures.1 in
     let g = kinds_broke _ c.args.signals.now.few _ _ c.args.self.now.within _ _ _ c.loop-self.invariant.0 (seen c.loop-self-test.ensures) _ _ c.in_err-shape.ensures.read.gives in
     record {
-      read = record { gives = rw p g; stays = c.in_err-shape.ensures.read.stays ∙ c.loop-self.invariant.1 };
+      read = refused c.from_residual.ensures.1 g (c.in_err-shape.ensures.read.stays ∙ c.loop-self.invariant.1);
       kinds = holds_none nothing _ _ _ _ g;
       transitions = holds_none nothing _ _ _ _ g;
     }

@@ -1,15 +1,14 @@
 use Rattle.std.proofs.Common.{refl, ◌∙◌}
 use Rattle.level.specs.Entries.{starting}
 use Rattle.level.proofs.Starting.{starts_broke, starts_again, starts_done}
-use Rattle.level.proofs.Turns.{done, handed}
+use Rattle.level.proofs.Turns.{done, refused}
 use Rattle.level.proofs.Fills.{seen, unseen}
 use Rattle.level.proofs.cursor.Cursor.starts.Goals as goal
 
 pub returns-in_err-number : goal.returns-in_err-number
 returns-in_err-number c =
-    let p = handed _ c.from_residual.ensures.1 in
     let g = starts_broke _ _ _ _ c.loop-self.invariant.0 (seen c.loop-self-test.ensures) starting _ _ c.in_err-number.ensures.gives in
-    record { gives = rw p g; stays = c.in_err-number.ensures.stays ∙ c.loop-self.invariant.1 }
+    refused c.from_residual.ensures.1 g (c.in_err-number.ensures.stays ∙ c.loop-self.invariant.1)
 
 pub loop-self-preserved : goal.loop-self-preserved
 loop-self-preserved c = (

@@ -6,6 +6,6 @@ pub returns : goal.returns
 returns c =
     let h = c.in_ok-head.ensures.gives in
     let k = c.place-effect.ensures in
-    let g = made c.args.scope.now.signals.now.counts.items c.args.scope.now.shape.numbers c.args.scope.now.shape.states c.args.self.now.total c.args.scope.now.kind (length c.args.transitions.now.items) c.args.self.now.rest.now _ c.in_ok-opens.ensures.gives c.args.self.now.octets c.args.self.now.within
-    c.in_ok-head.head _ (rw c.in_ok-opens.ensures.stays at h) _ c.in_ok-expression.ensures.gives _ c.in_ok-effect.ensures.gives _ (rw (c.in_ok-expression.ensures.stays, c.in_ok-head.ensures.stays, c.in_ok-opens.ensures.stays) at k) in
+    let g = made _ _ _ _ _ _ _ _ c.in_ok-opens.ensures.gives c.args.self.now.octets c.args.self.now.within
+    _ _ (rw c.in_ok-opens.ensures.stays at h) _ c.in_ok-expression.ensures.gives _ c.in_ok-effect.ensures.gives _ (rw (c.in_ok-expression.ensures.stays, c.in_ok-head.ensures.stays, c.in_ok-opens.ensures.stays) at k) in
     record { gives = g; stays = search rules }

@@ -2,15 +2,14 @@ use Rattle.std.proofs.Common.{refl, ◌∙◌}
 use Rattle.level.specs.Readers.{nothing}
 use Rattle.level.proofs.Fills.{holds_none, seen, unseen}
 use Rattle.level.proofs.Growing.{transitions_broke, transitions_again, transitions_less, transitions_done}
-use Rattle.level.proofs.Turns.{done, handed}
+use Rattle.level.proofs.Turns.{done, refused}
 use Rattle.level.proofs.cursor.Cursor.transitions.Goals as goal
 
 pub returns-in_err-entry : goal.returns-in_err-entry
 returns-in_err-entry c =
-    let p = handed _ c.from_residual.ensures.1 in
     let i = c.in_err-entry.ensures.gives in
     let g = transitions_broke _ c.args.scope.now.signals.now.few _ _ _ _ _ _ c.args.self.now.within _ _ c.loop-self.invariant.0 (seen c.loop-self-test.ensures) _ _ (rw c.loop-self.invariant.1 at i) in
-    record { read = record { gives = rw p g; stays = c.in_err-entry.ensures.stays ∙ c.loop-self.invariant.1 }; table = holds_none nothing _ _ _ _ g }
+    record { read = refused c.from_residual.ensures.1 g (c.in_err-entry.ensures.stays ∙ c.loop-self.invariant.1); table = holds_none nothing _ _ _ _ g }
 
 pub loop-self-preserved : goal.loop-self-preserved
 loop-self-preserved c =
