@@ -1,9 +1,10 @@
 -- How the promises of readers are put together, as the code calls them one after another.
-use Rattle.std.proofs.Common.{◌≡◌, ℕ, List, Ok, Err, Result, sym, refl, ap, ◌∙◌, subst, arith}
+use Rattle.std.proofs.Common.{◌≡◌, ℕ, List, [], Ok, Err, Result, sym, refl, ap, ◌∙◌, subst, arith}
 use Rattle.std.specs.Result.{IsErrAnd}
 use Rattle.std.proofs.lemmas.Result.{err_from_is_err_and}
 use Rattle.level.specs.declared.cursor.Cursor.{Cursor}
 use Rattle.level.specs.declared.fault.Reason.{Reason}
+use Rattle.level.specs.declared.fault.Reason.TheVariants.{Truncated}
 use Rattle.level.specs.Reading.{Read, got, bad, fault, then}
 use Rattle.level.specs.Readers.{answered, remains, nothing, Gives, Moves}
 
@@ -64,6 +65,11 @@ handed r h = let p = err_from_is_err_and r h in p.1 ∙ ap Err p.2
 pub refused : {A B : Type 0} {f : A → B} {R : Read A} {e : Reason} {r : Result B Reason} {before after : Cursor} → IsErrAnd r (λ x. x ≡ e)
     → Gives f R (Err e) after.rest.now → after.total ≡ before.total → Moves f R r before after
 refused h g s = record { gives = rw (handed _ h) g; stays = s }
+
+-- the bytes end too soon
+pub cut_off : {A B : Type 0} {f : A → B} {R : Read A} {w : Reason} {before after : Cursor} → R ≡ fault Truncated []
+    → w ≡ Truncated → after.rest.now ≡ [] → after.total ≡ before.total → Moves f R (Err w) before after
+cut_off k a r s = record { gives = stops _ _ _ _ k _ _ a r; stays = s }
 
 -- it was the last, and only whether it was read counts
 pub tail : {A C : Type 0} (R : Read C) (F : List ℕ → Read A) (G : A → C) (x y : List ℕ) → R ≡ then (F y) (λ a m. got (G a) m) → x ≡ y

@@ -1,5 +1,4 @@
 use Rattle.std.proofs.Common.{refl, length, sym, ◌∙◌, rules}
-use Rattle.level.specs.Tables.{entry_counts}
 use Rattle.level.proofs.Listing.{counts_table}
 use Rattle.level.proofs.OnePiece.{kind_refused, starts_refused, piece_made}
 use Rattle.level.proofs.Turns.{handed, refused}

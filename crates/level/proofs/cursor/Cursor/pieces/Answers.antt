@@ -1,6 +1,5 @@
 use Rattle.std.proofs.Common.{refl, ◌∙◌}
 use Rattle.level.specs.Readers.{nothing}
-use Rattle.level.specs.Tables.{entry_counts}
 use Rattle.level.proofs.Fills.{holds_none, seen, unseen}
 use Rattle.level.proofs.OnePiece.{pieces_broke, pieces_again, pieces_less, pieces_done}
 use Rattle.level.proofs.Turns.{done, refused}

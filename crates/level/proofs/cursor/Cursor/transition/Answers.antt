@@ -1,4 +1,4 @@
-use Rattle.std.proofs.Common.{length, rules}
+use Rattle.std.proofs.Common.{rules}
 use Rattle.level.proofs.Transitions.{made}
 use Rattle.level.proofs.cursor.Cursor.transition.Goals as goal
 

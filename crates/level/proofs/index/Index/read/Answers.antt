@@ -9,9 +9,9 @@ pub returns-in_err-pieces : goal.returns-in_err-pieces
 returns-in_err-pieces c =
     let p = handed _ c.from_residual-in_err-pieces.ensures.1 in
     let t = c.in_ok-kinds.ensures.transitions in
-    let g = pieces_refused c.args.cursor.now.rest.now c.args.cursor.now.octets c.args.cursor.now.total c.requires.whole
-    c.signals.new.signals.counts.items _ c.in_ok-signals.ensures.read.gives c.in_ok-signals.ensures.table
-    c.kinds.new.kinds.entries.items c.kinds.new.transitions.items _ c.in_ok-kinds.ensures.read.gives c.in_ok-kinds.ensures.kinds (rw c.in_ok-signals.ensures.read.stays at t) _ _ c.in_err-pieces.ensures.read.gives _ p in
+    let g = pieces_refused _ c.args.cursor.now.octets _ c.requires.whole
+    _ _ c.in_ok-signals.ensures.read.gives c.in_ok-signals.ensures.table
+    _ _ _ c.in_ok-kinds.ensures.read.gives c.in_ok-kinds.ensures.kinds (rw c.in_ok-signals.ensures.read.stays at t) _ _ c.in_err-pieces.ensures.read.gives _ p in
     record { read = record { gives = g; stays = search rules }; index = holds_none nothing _ _ _ _ (rw p at g) }
 
 pub returns : goal.returns
@@ -19,14 +19,14 @@ returns c =
     let t = c.in_ok-kinds.ensures.transitions in
     record {
       read = record {
-        gives = sections_read c.args.cursor.now.rest.now c.args.cursor.now.octets c.args.cursor.now.total c.requires.whole
-            c.signals.new.signals.counts.items _ c.in_ok-signals.ensures.read.gives c.in_ok-signals.ensures.table
-            c.kinds.new.kinds.entries.items c.kinds.new.transitions.items _ c.in_ok-kinds.ensures.read.gives c.in_ok-kinds.ensures.kinds (rw c.in_ok-signals.ensures.read.stays at t)
-            c.pieces.new.pieces.items _ c.in_ok-pieces.ensures.read.gives c.in_ok-pieces.ensures.table _ _ c.end.ensures.gives;
+        gives = sections_read _ c.args.cursor.now.octets _ c.requires.whole
+            _ _ c.in_ok-signals.ensures.read.gives c.in_ok-signals.ensures.table
+            _ _ _ c.in_ok-kinds.ensures.read.gives c.in_ok-kinds.ensures.kinds (rw c.in_ok-signals.ensures.read.stays at t)
+            _ _ c.in_ok-pieces.ensures.read.gives c.in_ok-pieces.ensures.table _ _ c.end.ensures.gives;
         stays = search rules;
       };
-      index = sections_indexed c.args.cursor.now.rest.now c.args.cursor.now.octets c.args.cursor.now.total c.requires.whole
-          c.signals.new.signals.counts.items _ c.in_ok-signals.ensures.read.gives c.in_ok-signals.ensures.table
-          c.kinds.new.kinds.entries.items c.kinds.new.transitions.items _ c.in_ok-kinds.ensures.read.gives c.in_ok-kinds.ensures.kinds (rw c.in_ok-signals.ensures.read.stays at t)
-          c.pieces.new.pieces.items _ c.in_ok-pieces.ensures.read.gives c.in_ok-pieces.ensures.table;
+      index = sections_indexed _ c.args.cursor.now.octets _ c.requires.whole
+          _ _ c.in_ok-signals.ensures.read.gives c.in_ok-signals.ensures.table
+          _ _ _ c.in_ok-kinds.ensures.read.gives c.in_ok-kinds.ensures.kinds (rw c.in_ok-signals.ensures.read.stays at t)
+          _ _ c.in_ok-pieces.ensures.read.gives c.in_ok-pieces.ensures.table;
     }
