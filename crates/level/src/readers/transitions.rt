@@ -1,6 +1,5 @@
 // The transitions of a kind.
-ghost use Rattle.std.specs.Prelude.{◌≡◌, ◌+◌, ◌-◌, ◌<◌, ◌≤◌, true, false, ◌&&◌, ◌++◌, map, length, if◌then◌else◌, Some, None, Ok, Err, nat_le, nat_lt};
-ghost use Rattle.level.specs.declared.fault.OperandFault.TheVariants.{OutOfRange};
+ghost use Rattle.std.specs.Prelude.{◌≡◌, ◌+◌, ◌-◌, ◌<◌, ◌≤◌, ◌++◌, map, length};
 ghost use Rattle.level.specs.Entries.{transition_entry};
 ghost use Rattle.level.specs.Places.{in_kind, placed_at};
 ghost use Rattle.level.specs.Reading.{at, read_transition, read_transitions};
