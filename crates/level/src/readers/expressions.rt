@@ -60,7 +60,8 @@ impl<'a> Cursor<'a> {
         self.nested(8, numbers)
     }
 
-    // So many expressions, by recursion, as the definition reads them.
+    // So many expressions, by recursion, as the definition reads them: so the proof finds itself, where a loop over `0..count` takes
+    // an invariant on how all that may follow is read, two lemmas and four answers.
     pub fn expressions(&mut self, count: u8, numbers: u8) -> Result<(), Reason>
         ensures { Moves nothing (read_exprs count numbers self.old.rest.now) result self.old self.new }
     {
