@@ -127,8 +127,8 @@ impl<M: Mail> Turn<'_, M> {
         }
     }
 
-    // The statements of an effect from a place on, of which `left` may still come. It calls itself, as the definition does: how long
-    // the effect is is not known before.
+    // The statements of an effect from a place on, of which `left` may still come. It calls itself, as the definition does, since
+    // the length of an effect is not known before.
     fn statements(&self, at: usize, left: u8, trails: &mut Trails) -> Result<(), Why>
         requires { legible (effect_at self.now.level.now left at) ≡ true }
         ensures lists { lists_or result (lists trails.new) ≡ steps_at (around M.Mail self.now (places trails.old)) (lists trails.old) at (effect_at self.now.level.now left at) }

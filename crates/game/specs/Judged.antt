@@ -62,7 +62,7 @@ left_after (Err f) t = empty
 abbrev pub before : Listed → Trails → Earlier
 before n t = earlier_of (moved_in n) (took_in n) (lists t)
 
--- the trails have places for all that one move may write and send
+-- the trails have places for all that one move may write and send: a condition, since it holds only while moves are judged
 abbrev pub Roomy : Trails → Type 0
 Roomy t = (length (held t.changes) + 10 ≤ room t.changes) × (length (held t.parcels) + 8 ≤ room t.parcels)
 
