@@ -7,4 +7,5 @@ pub mod firing;
 pub mod games;
 pub mod levels;
 pub mod mails;
+mod sizes;
 pub mod striking;
