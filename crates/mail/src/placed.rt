@@ -1,5 +1,5 @@
 // A mail that puts its messages by a rule of placing, whichever that is.
-ghost use Rattle.std.specs.Prelude.{◌≡◌, ℕ, ◌+◌, ◌*◌, ◌<◌, ◌≤◌, List, [], ◌∷◌, ◌++◌, length, replicate, slice_index};
+ghost use Rattle.std.specs.Prelude.{◌≡◌, ℕ, ◌+◌, ◌-◌, ◌*◌, ◌<◌, ◌≤◌, List, [], ◌∷◌, ◌++◌, length, drop, replicate, slice_index};
 ghost use Rattle.std.specs.List.{insert};
 ghost use Rattle.mail.specs.declared.message.Message.{Message};
 ghost use Rattle.mail.specs.Messages.{blank};
@@ -37,6 +37,17 @@ fn last_to(messages: &mut [Message], at: usize)
     ensures { (front : List Message) (last : Message) → messages.old ≡ front ++ last ∷ [] → messages.new ≡ insert front at last }
 {
     messages[at..].rotate_right(1);
+}
+
+// Moves the messages after the first one place to the front; the last stays as well, past those that still wait. By
+// `rotate_left` a taking took half again as long.
+fn first_out(messages: &mut [Message])
+    requires { 0 < length messages.old }
+    ensures { messages.new ≡ drop 1 messages.old ++ drop (length messages.old - 1) messages.old }
+{
+    for i in 0..messages.len() - 1 {
+        messages[i] = messages[i + 1];
+    }
 }
 
 impl<R: Placing<PLACES>, const PLACES: usize> PlacedMail<R, PLACES> {
@@ -130,7 +141,7 @@ impl<R: Placing<PLACES>, const PLACES: usize> Mail for PlacedMail<R, PLACES> {
         let message = *waiting.first().ok_or(MailFault::Empty)?;
         let start = Self::start(piece);
         let places = &mut self.table.places[..];
-        places[start..start + count].rotate_left(1);
+        first_out(&mut places[start..start + count]);
         self.table.counts[usize::from(piece)] -= 1;
         Ok(message)
     }

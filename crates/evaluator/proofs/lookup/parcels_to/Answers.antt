@@ -1,6 +1,9 @@
-use Rattle.std.proofs.Common.{◌∙◌, rules}
-use Rattle.evaluator.proofs.Looking.{parcels_counted}
+use Rattle.std.proofs.Common.{rules}
+use Rattle.evaluator.proofs.Looking.{parcels_more, parcels_all}
 use Rattle.evaluator.proofs.lookup.parcels_to.Goals as goal
 
-pub returns-clause-count : goal.returns-clause-count
-returns-clause-count c = search rules ∙ parcels_counted c.args.parcels.now c.args.piece
+pub loop-parcel-preserved : goal.loop-parcel-preserved
+loop-parcel-preserved c = search (rules, parcels_more, parcels_all)
+
+pub returns : goal.returns
+returns c = search (rules, parcels_more, parcels_all)

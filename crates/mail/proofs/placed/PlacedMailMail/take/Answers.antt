@@ -14,5 +14,5 @@ returns-clause-after g c =
     let here : c.args.piece ≤ 31 = omega arith in
     let some : 0 < length c.tray-waiting.result.now = search rules in
     rw c.from.ensures (rw c.start-start.ensures.at
-    (tray_taken _ _ _ s.places s.counts s.few c.args.piece here _ c.rotate_left.new.self (omega arith) (omega arith)
-    (rw c.start-start.ensures.at at c.rotate_left.ensures.after)))
+    (tray_taken _ _ _ s.places s.counts s.few c.args.piece here _ c.first_out.new.messages (omega arith) (omega arith)
+    (rw c.start-start.ensures.at at c.first_out.ensures)))
