@@ -28,3 +28,20 @@ pub struct PieceEntry {
     pub numbers: u8,
     pub starts: [i32; 8],
 }
+
+// The operands of a transition: what its entry says but for its kind and where its code stands.
+#[derive(Clone, Copy)]
+pub struct Head {
+    pub source: u8,
+    pub target: u8,
+    pub signal: u8,
+    pub first: Option<u8>,
+    pub second: Option<u8>,
+}
+
+// A number of a piece and the value it starts with.
+#[derive(Clone, Copy)]
+pub struct Start {
+    pub number: u8,
+    pub value: i32,
+}

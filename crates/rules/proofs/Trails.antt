@@ -138,6 +138,15 @@ module _ (L : Level) (P : Placed → Type 0) (one : (k n i m : ℕ) (t : Transit
 abbrev Few : Placed → Type 0
 Few t = length t.transition.effect ≤ most_statements
 
+few_kind : (signals : List ℕ) (k n i m : ℕ) (ts : List Transition) → Each (SoundTransition signals n m) ts → Each Few (in_kind k n i ts)
+few_kind signals k n i m [] h = tt
+few_kind signals k n i m (t ∷ ts) h = (h.0.statements, few_kind signals k n (i + length (transition t)) m ts h.1)
+
+few_kinds : (signals : List ℕ) (k i : ℕ) (xs : List Kind) → Each (SoundKind signals) xs → Each Few (in_kinds k i xs)
+few_kinds signals k i [] h = tt
+few_kinds signals k i (x ∷ xs) h = each_append Few (in_kind k x.numbers (i + 3) x.transitions) _
+    (few_kind signals k x.numbers (i + 3) x.states x.transitions h.0.transitions) (few_kinds signals (k + 1) (i + length (kind x)) xs h.1)
+
 few_of : (L : Level) (p n : ℕ) → Sound L → Maybe Few (transition_of L p n)
 few_of L p n sound = let h = transition_has L Few (λ k n i m t l h. h.statements) sound p n in grind arith
 
