@@ -6,7 +6,7 @@ mod tests {
         LAMP_AND_BELL, NO_CHANGE, NO_PARCEL, change, fire, loaded, message, parcel, refused,
         stands, strike,
     };
-    use evaluator::trail::Trails;
+    use evaluator::trail::{Trail, Trails};
     use game::Game;
     use level::Level;
     use mail::Mail;
@@ -72,6 +72,45 @@ mod tests {
     fn a_later_move_does_not_see_an_earlier_write(rt: HostRuntime) -> Result<(), Fail> {
         lamp_and_then_bell(&rt, &mut Game::new(QueueMail::new()))?;
         lamp_and_then_bell(&rt, &mut Game::new(UrgentMail::new()))
+    }
+
+    // Trails that are lent each by itself, with lives of their own: the changes outlive the parcels.
+    #[test]
+    fn trails_are_filled_that_are_lent_each_by_itself(rt: HostRuntime) -> Result<(), Fail> {
+        let bytes = LAMP_AND_BELL;
+        let level = loaded(&bytes);
+        let mut game = Game::new(QueueMail::new());
+        game.set_out(&level);
+        game.tap(&level, 0, message(1, 30, 0))?;
+        let mut change_places = [NO_CHANGE; 160];
+        let mut changes = Trail::new(&mut change_places);
+        {
+            let mut parcel_places = [NO_PARCEL; 128];
+            let mut parcels = Trail::new(&mut parcel_places);
+            assert_eq!(rt;
+                game.strike_into(
+                    &level,
+                    b"\x51\x01\x01\x51\x00\x00",
+                    &mut changes,
+                    &mut parcels
+                ),
+                Ok(2)
+            );
+            assert_eq!(rt; (parcels.len(), parcels.room()), (0, 128));
+        }
+        assert_eq!(rt;
+            changes.entries(),
+            [change(1, 0, 9), change(0, 0, 30)].as_slice()
+        );
+        let mut short_places = [NO_PARCEL; 127];
+        let mut short = Trail::new(&mut short_places);
+        assert_eq!(rt;
+            game.fire_into(&level, 1, 1, &mut changes, &mut short),
+            Err(StrikeFault::ShortTrail)
+        );
+        assert_eq!(rt; (changes.len(), changes.room()), (0, 160));
+        assert_eq!(rt; stands(&game, 1), (0, 9, 0));
+        Ok(())
     }
 
     // Fires a move in one game and strikes it alone in another.

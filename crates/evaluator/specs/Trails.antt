@@ -31,3 +31,10 @@ lists t = record { changes = held t.changes; parcels = held t.parcels }
 -- how many entries each can hold
 abbrev pub places : Trails → Lent
 places t = record { changes = room t.changes; parcels = room t.parcels }
+
+-- the same of two trails that are lent each by itself
+abbrev pub both : Trail Change → Trail Parcel → Lists
+both c p = record { changes = held c; parcels = held p }
+
+abbrev pub lent : Trail Change → Trail Parcel → Lent
+lent c p = record { changes = room c; parcels = room p }

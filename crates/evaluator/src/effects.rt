@@ -72,7 +72,7 @@ impl<M: Mail> Turn<'_, M> {
     {
         let number = self.level.code()[at + 1];
         let (value, next) = self.expression(at + 2, trails)?;
-        self.write(self.own_change(number, value), trails)?;
+        self.write(self.own_change(number, value), &mut trails.changes)?;
         Ok(next)
     }
 
@@ -93,7 +93,7 @@ impl<M: Mail> Turn<'_, M> {
                 number,
                 value,
             },
-            trails,
+            &mut trails.changes,
         )?;
         Ok(next)
     }
@@ -109,7 +109,7 @@ impl<M: Mail> Turn<'_, M> {
         let (named, middle) = self.expression(at + 2, trails)?;
         let (message, next) = self.message(signal, middle, trails)?;
         let piece = there(piece_named(self.level, named), at)?;
-        self.send(Parcel { piece, message }, trails)?;
+        self.send(Parcel { piece, message }, &mut trails.parcels)?;
         Ok(next)
     }
 

@@ -16,7 +16,7 @@ pub struct Trail<'a, T> {
 
 // Both trails of a call: what its moves write, and what they send.
 #[derive(Drop)]
-pub struct Trails<'a> {
-    pub changes: Trail<'a, Change>,
-    pub parcels: Trail<'a, Parcel>,
+pub struct Trails<'c, 'p> {
+    pub changes: Trail<'c, Change>,
+    pub parcels: Trail<'p, Parcel>,
 }

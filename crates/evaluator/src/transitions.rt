@@ -13,7 +13,7 @@ ghost use Rattle.evaluator.specs.Trails.{KeptBoth, held, lists, places};
 ghost use Rattle.evaluator.specs.Trying.{discarded, held_at, numbers_of, trial_of, tried_at, wanted_at};
 
 use crate::arithmetic::holds;
-use crate::trail::Trails;
+use crate::trail::{Trail, Trails};
 use crate::turn::Turn;
 use level::entry::TransitionEntry;
 use mail::Mail;
@@ -37,7 +37,7 @@ impl<M: Mail> Turn<'_, M> {
         let Some(number) = into else {
             return Ok(());
         };
-        self.write(self.own_change(number, value), trails)
+        self.write(self.own_change(number, value), &mut trails.changes)
     }
 
     // The numbers of the message are received in order, before the guard.
@@ -58,20 +58,25 @@ impl<M: Mail> Turn<'_, M> {
     }
 
     // Whether the guard at a place holds, with these changes as the move's own and all in the trail as earlier ones.
-    fn trial(&self, at: usize, own: &[Change], trails: &Trails) -> Result<bool, Why>
+    fn trial(&self, at: usize, own: &[Change], changes: &Trail<Change>) -> Result<bool, Why>
         requires { legible (expression_at self.now.level.now deepest at) ≡ true }
-        ensures { result ≡ held_at (sight_with self.now (held trails.now.changes) own.now) at (expression_at self.now.level.now deepest at) }
+        ensures { result ≡ held_at (sight_with self.now (held changes.now) own.now) at (expression_at self.now.level.now deepest at) }
     {
-        let view = self.view(trails.changes.entries(), own);
+        let view = self.view(changes.entries(), own);
         let (value, _) = view.expression(at)?;
         Ok(holds(value))
     }
 
     // Whether a transition, which wants the message, has a true guard. The numbers that it would receive are laid over for the trial
     // only. A second is never without a first.
-    fn tried(&self, found: TransitionEntry, message: Message, trails: &Trails) -> Result<bool, Why>
+    fn tried(
+        &self,
+        found: TransitionEntry,
+        message: Message,
+        changes: &Trail<Change>,
+    ) -> Result<bool, Why>
         requires { legible (expression_at self.now.level.now deepest found.guard) ≡ true }
-        ensures { result ≡ tried_at self.now (held trails.now.changes) message found }
+        ensures { result ≡ tried_at self.now (held changes.now) message found }
     {
         match (found.first, found.second) {
             (Some(first), Some(second)) => {
@@ -79,13 +84,13 @@ impl<M: Mail> Turn<'_, M> {
                     self.own_change(first, message.first),
                     self.own_change(second, message.second),
                 ];
-                self.trial(found.guard, &own, trails)
+                self.trial(found.guard, &own, changes)
             }
             (Some(first), None) => {
                 let own = [self.own_change(first, message.first)];
-                self.trial(found.guard, &own, trails)
+                self.trial(found.guard, &own, changes)
             }
-            (None, _) => self.trial(found.guard, &[], trails),
+            (None, _) => self.trial(found.guard, &[], changes),
         }
     }
 
@@ -95,24 +100,24 @@ impl<M: Mail> Turn<'_, M> {
         found: TransitionEntry,
         kind: u8,
         message: Message,
-        trails: &Trails,
+        changes: &Trail<Change>,
     ) -> Result<bool, Why>
         requires { legible (expression_at self.now.level.now deepest found.guard) ≡ true }
-        ensures { result ≡ wanted_at self.now (held trails.now.changes) kind message found }
+        ensures { result ≡ wanted_at self.now (held changes.now) kind message found }
     {
         if !wants(found, kind, self.table.state(self.mover), message) {
             return Ok(false);
         }
-        self.tried(found, message, trails)
+        self.tried(found, message, changes)
     }
 
     // A discard by a piece of this kind: refused where a transition that wants the message has a true guard, each tried in level
     // order.
-    pub fn discard(&self, kind: u8, message: Message, trails: &Trails) -> Result<(), Why>
-        ensures { result ≡ discarded (held trails.now.changes) (unwanted (meaning self.now.level.now) (board_of self.now.table.now) self.now.mover kind (states_of self.now.table.now self.now.mover) message (placed (meaning self.now.level.now))) }
+    pub fn discard(&self, kind: u8, message: Message, changes: &Trail<Change>) -> Result<(), Why>
+        ensures { result ≡ discarded (held changes.now) (unwanted (meaning self.now.level.now) (board_of self.now.table.now) self.now.mover kind (states_of self.now.table.now self.now.mover) message (placed (meaning self.now.level.now))) }
     {
         for found in self.level.transitions() {
-            if self.wanted(*found, kind, message, trails)? {
+            if self.wanted(*found, kind, message, changes)? {
                 return Err(Why::Guard);
             }
         }

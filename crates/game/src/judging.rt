@@ -128,7 +128,7 @@ impl<M: Mail> Game<M> {
             written: trails.changes.len(),
             sent: trails.parcels.len(),
         };
-        turn.discard(entry.kind, message, trails)
+        turn.discard(entry.kind, message, &trails.changes)
     }
 
     // A move, after those listed before it.

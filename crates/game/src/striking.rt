@@ -2,17 +2,18 @@
 ghost use Rattle.std.specs.Prelude.{◌≡◌, ◌≤◌, true, length, is_ok};
 ghost use Rattle.rules.specs.Calls.{call, fire, front_moves, full, move_of, moves_of, strike};
 ghost use Rattle.rules.specs.Single.{Step};
-ghost use Rattle.evaluator.specs.Trails.{KeptBoth, lists, places};
+ghost use Rattle.evaluator.specs.Trails.{both, Kept, KeptBoth, lent, lists, places};
 ghost use Rattle.game.specs.Games.{after_strike, EndsAsEnabled, means, setting};
 ghost use Rattle.game.specs.Judged.{all_judged, counted, empty, left_after, with_trails};
 
 use crate::board::Game;
 use evaluator::listed::Listed;
-use evaluator::trail::Trails;
+use evaluator::trail::{Trail, Trails};
 use level::Level;
 use mail::Mail;
 use rules::fault::{MoveFault, StrikeFault};
 use rules::moves::Moves;
+use rules::trail::{Change, Parcel};
 
 // Whether the trails have places for all that a beat may write and send.
 fn full(trails: &Trails) -> bool
@@ -109,5 +110,46 @@ impl<M: Mail> Game<M> {
             → EndsAsEnabled (setting M.Mail level.now) (means M.Mail self.old) (move_of piece transition) result (means M.Mail self.new) }
     {
         self.strike(level, &[0x51, piece, transition], trails)
+    }
+
+    // `strike`, into two trails that are lent each by itself.
+    pub fn strike_into(
+        &mut self,
+        level: &Level,
+        moves: &[u8],
+        changes: &mut Trail<Change>,
+        parcels: &mut Trail<Parcel>,
+    ) -> Result<usize, StrikeFault>
+        ensures call { after_strike result (means M.Mail self.new) (both changes.new parcels.new)
+            ≡ call (setting M.Mail level.now) (means M.Mail self.old) (strike (lent changes.old parcels.old) moves.now) }
+        ensures lent { Kept changes.old changes.new × Kept parcels.old parcels.new }
+    {
+        let mut trails = Trails::take(changes, parcels);
+        let answer = self.strike(level, moves, &mut trails);
+        trails.give_back(changes, parcels);
+        answer
+    }
+
+    // `fire`, into two trails that are lent each by itself.
+    pub fn fire_into(
+        &mut self,
+        level: &Level,
+        piece: u8,
+        transition: u8,
+        changes: &mut Trail<Change>,
+        parcels: &mut Trail<Parcel>,
+    ) -> Result<usize, StrikeFault>
+        ensures call { after_strike result (means M.Mail self.new) (both changes.new parcels.new)
+            ≡ call (setting M.Mail level.now) (means M.Mail self.old) (fire (lent changes.old parcels.old) piece transition) }
+        ensures lent { Kept changes.old changes.new × Kept parcels.old parcels.new }
+        ensures step { is_ok result ≡ true
+            → Step (setting M.Mail level.now) (means M.Mail self.old) (move_of piece transition) (means M.Mail self.new) }
+        ensures enabled { full (lent changes.old parcels.old) ≡ true
+            → EndsAsEnabled (setting M.Mail level.now) (means M.Mail self.old) (move_of piece transition) result (means M.Mail self.new) }
+    {
+        let mut trails = Trails::take(changes, parcels);
+        let answer = self.fire(level, piece, transition, &mut trails);
+        trails.give_back(changes, parcels);
+        answer
     }
 }

@@ -1,15 +1,17 @@
 // Values that a move reads, and what it writes and sends.
-ghost use Rattle.std.specs.Prelude.{◌≡◌, ◌≤◌, true};
+ghost use Rattle.std.specs.Prelude.{◌≡◌, ℕ, ◌≤◌, List, true};
 ghost use Rattle.level.specs.Sound.{deepest};
 ghost use Rattle.rules.specs.Trace.{sends, writes};
 ghost use Rattle.evaluator.specs.Meeting.{around, left_of, lists_or, meet, sight_of, sight_with};
 ghost use Rattle.evaluator.specs.Reckoning.{legible, sight, value_at};
 ghost use Rattle.evaluator.specs.Standing.{expression_at};
-ghost use Rattle.evaluator.specs.Trails.{KeptBoth, held, lists, places};
+ghost use Rattle.rules.specs.declared.trail.Change.{Change};
+ghost use Rattle.rules.specs.declared.trail.Parcel.{Parcel};
+ghost use Rattle.evaluator.specs.Trails.{Kept, held, room};
 
 use super::Turn;
 use crate::lookup::{last_change, parcels_to};
-use crate::trail::Trails;
+use crate::trail::{Trail, Trails};
 use crate::view::View;
 use mail::Mail;
 use rules::fault::Why;
@@ -51,16 +53,15 @@ impl<M: Mail> Turn<'_, M> {
     }
 
     // A change more, unless an earlier move has written the cell. Full trails hold what any beat writes, so that there is a place.
-    pub fn write(&self, change: Change, trails: &mut Trails) -> Result<(), Why>
-        ensures lists { lists_or result (lists trails.new) ≡ meet (around M.Mail self.now (places trails.old)) (lists trails.old) (writes change.piece change.number change.value) }
-        ensures parcels { held trails.new.parcels ≡ held trails.old.parcels }
-        ensures kept { KeptBoth trails.old trails.new }
+    pub fn write(&self, change: Change, changes: &mut Trail<Change>) -> Result<(), Why>
+        ensures lists { (ps : List Parcel) (n : ℕ) → lists_or result (record { changes = held changes.new; parcels = ps }) ≡ meet (around M.Mail self.now (record { changes = room changes.old; parcels = n })) (record { changes = held changes.old; parcels = ps }) (writes change.piece change.number change.value) }
+        ensures kept { Kept changes.old changes.new }
     {
-        let earlier = trails.changes.before(self.written);
+        let earlier = changes.before(self.written);
         if last_change(earlier, change.piece, change.number).is_some() {
             return Err(Why::Clash);
         }
-        let _ = trails.changes.push(change);
+        let _ = changes.push(change);
         Ok(())
     }
 
@@ -74,19 +75,18 @@ impl<M: Mail> Turn<'_, M> {
     }
 
     // A parcel more, unless an earlier move has sent to the piece or its tray is full.
-    pub fn send(&self, parcel: Parcel, trails: &mut Trails) -> Result<(), Why>
-        ensures lists { lists_or result (lists trails.new) ≡ meet (around M.Mail self.now (places trails.old)) (lists trails.old) (sends parcel.piece parcel.message) }
-        ensures changes { held trails.new.changes ≡ held trails.old.changes }
-        ensures kept { KeptBoth trails.old trails.new }
+    pub fn send(&self, parcel: Parcel, parcels: &mut Trail<Parcel>) -> Result<(), Why>
+        ensures lists { (cs : List Change) (n : ℕ) → lists_or result (record { changes = cs; parcels = held parcels.new }) ≡ meet (around M.Mail self.now (record { changes = n; parcels = room parcels.old })) (record { changes = cs; parcels = held parcels.old }) (sends parcel.piece parcel.message) }
+        ensures kept { Kept parcels.old parcels.new }
     {
-        if parcels_to(trails.parcels.before(self.sent), parcel.piece) > 0 {
+        if parcels_to(parcels.before(self.sent), parcel.piece) > 0 {
             return Err(Why::Clash);
         }
-        let own = parcels_to(trails.parcels.since(self.sent), parcel.piece);
+        let own = parcels_to(parcels.since(self.sent), parcel.piece);
         if self.left(parcel.piece) + own == M::LIMIT {
             return Err(Why::TrayFull);
         }
-        let _ = trails.parcels.push(parcel);
+        let _ = parcels.push(parcel);
         Ok(())
     }
 }

@@ -8,5 +8,5 @@ use Rattle.evaluator.proofs.turn.Turn.discard.Given as goal
 
 abbrev pub invariant-loop-found : goal.invariant-loop-found
 invariant-loop-found g l =
-    from (meaning l.self.level.now) (board_of l.self.table.now) l.self.mover (held l.trails.changes) l.kind (states_of l.self.table.now l.self.mover) l.message l.found-index
-    ≡ from (meaning l.self.level.now) (board_of l.self.table.now) l.self.mover (held l.trails.changes) l.kind (states_of l.self.table.now l.self.mover) l.message 0
+    from (meaning l.self.level.now) (board_of l.self.table.now) l.self.mover (held l.changes) l.kind (states_of l.self.table.now l.self.mover) l.message l.found-index
+    ≡ from (meaning l.self.level.now) (board_of l.self.table.now) l.self.mover (held l.changes) l.kind (states_of l.self.table.now l.self.mover) l.message 0
